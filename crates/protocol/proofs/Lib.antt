@@ -1,0 +1,6 @@
+-- Laws of the protocol that several proofs cite, here and in the crates above.
+pub mod Bools
+pub mod Finite
+pub mod States
+pub mod Merge
+pub mod Rows

@@ -1,0 +1,98 @@
+-- The two rule tables of a line: the port's own, and the snoop table of the other holders. No word, tag or address enters them.
+use mathlib.Core.Bool.{Bool, true, false, cond, _&&_}
+use Rattle.protocol.specs.declared.state.Mode.{Mode}
+use Rattle.protocol.specs.declared.state.Mode.the-variants.{Through, Back}
+use Rattle.protocol.specs.declared.state.State.{State}
+use Rattle.protocol.specs.declared.state.State.the-variants.{I, S, E, O, M}
+use Rattle.protocol.specs.declared.access.Outcome.{Outcome}
+use Rattle.protocol.specs.declared.access.Outcome.the-variants.{Reads, Fails, Writes}
+use Rattle.protocol.specs.declared.rules.Bus.{Bus}
+use Rattle.protocol.specs.declared.rules.Bus.the-variants.{Quiet, Share, Update, Invalidate, ShareOwned}
+use Rattle.protocol.specs.declared.rules.Rule.{Rule}
+use Rattle.protocol.specs.State.{valid, owner, sameMode, modeOf, isBack, isThrough}
+
+-- A holder becomes S in the mode m.
+abbrev pub sharing : Mode → State → State
+sharing m I = I
+sharing m (S n) = S m
+sharing m (E n) = S m
+sharing m O = S m
+sharing m M = S m
+
+-- A holder becomes write-back S, but an owner stays the owner, as O.
+abbrev pub sharingOwned : State → State
+sharingOwned I = I
+sharingOwned (S n) = S Back
+sharingOwned (E n) = S Back
+sharingOwned O = O
+sharingOwned M = O
+
+-- The snoop table: what a holder's state becomes at a bus command.
+unfoldable pub snooped : Bus → State → State
+snooped Quiet s = s
+snooped (Share m) s = sharing m s
+snooped (Update m) s = sharing m s
+snooped Invalidate s = I
+snooped ShareOwned s = sharingOwned s
+
+-- The command hands the line's new word to the holders.
+unfoldable pub updates : Bus → Bool
+updates Quiet = false
+updates (Share m) = false
+updates (Update m) = true
+updates Invalidate = false
+updates ShareOwned = false
+
+abbrev pub ruled : State → Bus → Bool → Rule
+ruled s b x = record { own = s; bus = b; stores = x }
+
+-- The only holder of a new word: M, or write-through E where memory gets it too.
+abbrev pub alone : Mode → State
+alone Back = M
+alone Through = E Through
+
+-- The port whose new word the other holders have too: O, or write-through S where memory has it.
+abbrev pub among : Mode → State
+among Back = O
+among Through = S Through
+
+-- Below, m is the mode of the access, `shared` says that another port holds the line, and `dirty` that some port owns it.
+
+-- A read hit, or a swap hit that fails, of a line in another mode than m. (M is write back, so m is write through there.)
+abbrev pub turned : Mode → Bool → State → Rule
+turned m dirty I = ruled I Quiet false
+turned m dirty (E n) = ruled (E m) Quiet false
+turned m dirty M = ruled (E Through) Quiet true
+turned m dirty (S n) = ruled (S m) (Share m) (dirty && isThrough m)
+turned m dirty O = ruled (S m) (Share m) (dirty && isThrough m)
+
+-- A read hit, or a swap hit that fails: where the mode is m already, nothing changes.
+abbrev pub readHit : Mode → Bool → State → Rule
+readHit m dirty s = cond (sameMode (modeOf s) m) (ruled s Quiet false) (turned m dirty s)
+
+-- A write hit, or a swap hit that succeeds.
+abbrev pub writeHit : Mode → Bool → State → Rule
+writeHit m shared I = ruled I Quiet false
+writeHit m shared (E n) = ruled (alone m) Quiet (isThrough m)
+writeHit m shared M = ruled (alone m) Quiet (isThrough m)
+writeHit m shared (S n) = ruled (cond shared (among m) (alone m)) (Update m) (isThrough m)
+writeHit m shared O = ruled (cond shared (among m) (alone m)) (Update m) (isThrough m)
+
+abbrev pub hit : Outcome → Mode → Bool → Bool → State → Rule
+hit Reads m shared dirty s = readHit m dirty s
+hit Fails m shared dirty s = readHit m dirty s
+hit Writes m shared dirty s = writeHit m shared s
+
+-- A miss. The word comes from an owner where the line is dirty, else from memory.
+abbrev pub miss : Outcome → Mode → Bool → Bool → Rule
+miss Reads m shared dirty = ruled (cond shared (S m) (E m)) (cond (isBack m) ShareOwned (Share m)) (dirty && isThrough m)
+miss Writes m shared dirty = ruled (alone m) Invalidate (isThrough m)
+miss Fails m shared dirty = ruled (cond dirty (alone m) (E m)) Invalidate (dirty && isThrough m)
+
+-- The port's own table: the rule for a port that sees the line in the state s, I where its entry is of another line.
+unfoldable pub rule : Outcome → Mode → Bool → Bool → State → Rule
+rule k m shared dirty s = cond (valid s) (hit k m shared dirty s) (miss k m shared dirty)
+
+-- A flush by a holder: an owner's word is stored, and the entry becomes I.
+unfoldable pub flushRule : State → Rule
+flushRule s = ruled I Quiet (owner s)

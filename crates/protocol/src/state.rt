@@ -1,0 +1,81 @@
+// Modes, the seven states of an entry, and the bytes of the state table.
+ghost use mathlib.Core.Path.{_≡_};
+ghost use Rattle.protocol.specs.State.{stateOf, orInvalid, isState, valid, owner};
+
+// The mode of an access, and of an entry other than I.
+pub enum Mode {
+    Through,
+    Back,
+}
+
+// Modified, owned, exclusive, shared, invalid. A write-through line is never M or O: neither has a mode to say so.
+pub enum State {
+    I,
+    S(Mode),
+    E(Mode),
+    O,
+    M,
+}
+
+// A byte of the state table: one of the seven states, or no state.
+pub enum Byte {
+    Of(State),
+    No,
+}
+
+// The one place that tells the state bytes apart.
+pub fn byte_state(b: u8) -> Byte
+    ensures { λ r. ⌜ r ≡ stateOf b ⌝ }
+{
+    match b {
+        0 => Byte::Of(State::I),
+        1 => Byte::Of(State::S(Mode::Through)),
+        2 => Byte::Of(State::E(Mode::Through)),
+        9 => Byte::Of(State::S(Mode::Back)),
+        10 => Byte::Of(State::E(Mode::Back)),
+        11 => Byte::Of(State::O),
+        12 => Byte::Of(State::M),
+        3..=8 | 13..=255 => Byte::No,
+    }
+}
+
+pub fn is_state(b: Byte) -> bool
+    ensures { λ r. ⌜ r ≡ isState b ⌝ }
+{
+    match b {
+        Byte::Of(_) => true,
+        Byte::No => false,
+    }
+}
+
+// Not I. A byte that is no state counts as I here: a step refuses it first.
+pub fn is_valid(b: Byte) -> bool
+    ensures { λ r. ⌜ r ≡ valid (orInvalid b) ⌝ }
+{
+    match b {
+        Byte::Of(s) => match s {
+            State::I => false,
+            State::S(_) => true,
+            State::E(_) => true,
+            State::O => true,
+            State::M => true,
+        },
+        Byte::No => false,
+    }
+}
+
+// O or M.
+pub fn is_owner(b: Byte) -> bool
+    ensures { λ r. ⌜ r ≡ owner (orInvalid b) ⌝ }
+{
+    match b {
+        Byte::Of(s) => match s {
+            State::I => false,
+            State::S(_) => false,
+            State::E(_) => false,
+            State::O => true,
+            State::M => true,
+        },
+        Byte::No => false,
+    }
+}
