@@ -1,6 +1,7 @@
 -- Reasoning by Bool tests: a test that says yes, and what follows for `&&`, `||`, `not` and `implies`. Assumes nothing.
 use mathlib.Core.Bool.{Bool, true, false, cond, _&&_, _||_, not, false≢true}
 use mathlib.Core.Path.{_≡_, refl, sym}
+use Rattle.protocol.specs.Bools.{implies}
 
 -- The test says yes.
 abbrev pub Is : Bool → Type 0
@@ -25,10 +26,6 @@ or-l {a = false} b h = absurd (false≢true h)
 pub or-r : (a : Bool) {b : Bool} → Is b → Is (a || b)
 or-r true h = refl
 or-r false h = h
-
--- If a then b.
-abbrev pub implies : Bool → Bool → Bool
-implies a b = cond a b true
 
 pub mp : {a b : Bool} → Is (implies a b) → Is a → Is b
 mp {a = true} h k = h
@@ -56,12 +53,6 @@ pub by-cond : {A : Type 0} (P : A → Type 0) (b : Bool) (x y : A) → (Is b →
 by-cond P true x y f g = f refl
 by-cond P false x y f g = g refl
 
--- Two tests with the same answer.
-abbrev pub sameBool : Bool → Bool → Bool
-sameBool true b = b
-sameBool false b = not b
-
-pub same-bool : (a b : Bool) → Is (sameBool a b) → a ≡ b
-same-bool true b h = sym h
-same-bool false true h = h
-same-bool false false h = refl
+pub not-is : (b : Bool) → (Is b → ⊥) → Is (not b)
+not-is true f = absurd (f refl)
+not-is false f = refl

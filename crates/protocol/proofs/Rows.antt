@@ -17,9 +17,10 @@ use Rattle.protocol.specs.declared.rules.Bus.{Bus}
 use Rattle.protocol.specs.declared.rules.Rule.{Rule}
 use Rattle.protocol.specs.declared.rules.Row.{Row}
 use Rattle.protocol.specs.declared.rules.Coded.{Coded}
+use Rattle.protocol.specs.Bools.{bit}
 use Rattle.protocol.specs.State.{code, stateOf, isState, orInvalid}
 use Rattle.protocol.specs.Rules.{rule, snooped, updates}
-use Rattle.protocol.specs.Coded.{bit, busNumber, busAt, coded, pack, nibbleAt, packed, actNumber, ownRow, outcomeNumber, modeNumber, outcomeAt, modeAt, ownRowAt, snoopRow}
+use Rattle.protocol.specs.Coded.{busNumber, busAt, coded, pack, nibbleAt, packed, actNumber, ownRow, outcomeNumber, modeNumber, outcomeAt, modeAt, ownRowAt, snoopRow}
 use Rattle.protocol.proofs.Bools.{Is, by-bool, by-cond}
 use Rattle.protocol.proofs.Finite.{forBuses, at-bus}
 use Rattle.protocol.proofs.States.{code-small, code-stateOf}

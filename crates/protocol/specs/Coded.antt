@@ -14,12 +14,9 @@ use Rattle.protocol.specs.declared.rules.Bus.the-variants.{Quiet, Share,
 use Rattle.protocol.specs.declared.rules.Rule.{Rule}
 use Rattle.protocol.specs.declared.rules.Coded.{Coded}
 use Rattle.protocol.specs.declared.rules.Row.{Row}
+use Rattle.protocol.specs.Bools.{bit}
 use Rattle.protocol.specs.State.{code}
 use Rattle.protocol.specs.Rules.{rule, snooped}
-
-abbrev pub bit : Bool → ℕ
-bit true = 1
-bit false = 0
 
 -- The numbers of the bus commands.
 unfoldable pub busNumber : Bus → ℕ

@@ -1,4 +1,5 @@
 -- The definitions of the protocol, from states and words up to the two rule tables and their numbers.
+pub mod Bools
 pub mod State
 pub mod Word
 pub mod Access

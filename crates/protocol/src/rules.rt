@@ -5,9 +5,10 @@ use crate::state::State;
 ghost use mathlib.Core.Path.{_≡_};
 ghost use mathlib.Core.Bool.{true};
 ghost use Prim.Native.Nat.{ℕ, _<_, _≤_, _%_};
+ghost use Rattle.protocol.specs.Bools.{bit};
 ghost use Rattle.protocol.specs.State.{code, stateOf, orInvalid, isState};
 ghost use Rattle.protocol.specs.Rules.{rule, snooped, updates};
-ghost use Rattle.protocol.specs.Coded.{bit, busAt, coded, nibbleAt, outcomeNumber, modeNumber, ownRowAt, snoopRow};
+ghost use Rattle.protocol.specs.Coded.{busAt, coded, nibbleAt, outcomeNumber, modeNumber, ownRowAt, snoopRow};
 
 // What the port says to the other holders: nothing; become S in a mode; that, and take the new word; become I; become write-back S,
 // but an owner stays the owner, as O.

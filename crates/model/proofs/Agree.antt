@@ -1,0 +1,184 @@
+-- One order: the model answers as the flat memory does, and still goes with it. Assumes nothing.
+use Prim.Native.Nat.{ℕ, zero, _<_}
+use mathlib.Core.Path.{_≡_, refl, sym, _∙_}
+use mathlib.Core.Logic.{_≢_}
+use mathlib.Core.Bool.{Bool, true, false, cond, not, false≢true}
+use native.Mathlib.Omega.{arith}
+use native.Mathlib.Decide.{ℕ-discrete}
+use lib.ListN.{getD, length, length-set}
+use lib.Seq.{getD-set-same, getD-set-other}
+use lib.Dec.{eqb}
+use borrow.Author.Tests.{not-true}
+use Rattle.protocol.specs.declared.state.Mode.{Mode}
+use Rattle.protocol.specs.declared.access.Access.{Access}
+use Rattle.protocol.specs.declared.access.Access.the-variants.{Read, Write, Swap}
+use Rattle.protocol.specs.declared.access.Outcome.the-variants.{Fails, Writes}
+use Rattle.protocol.specs.declared.access.Effect.{Effect}
+use Rattle.protocol.specs.declared.rules.Rule.{Rule}
+use Rattle.protocol.specs.State.{valid}
+use Rattle.protocol.specs.Word.{merge, half}
+use Rattle.protocol.specs.Access.{effect, effectAt, writes}
+use Rattle.protocol.specs.Rules.{flushRule, snooped, updates}
+use Rattle.protocol.proofs.Bools.{Is, by-bool, by-cond, mp}
+use Rattle.model.specs.declared.shape.Shape.{Shape}
+use Rattle.model.specs.declared.order.Call.the-variants.{ByPort, Flush, DeviceRead}
+use Rattle.model.specs.declared.order.Decoded.{Decoded}
+use Rattle.model.specs.declared.order.Decoded.the-variants.{Asked, Refused}
+use Rattle.model.specs.Shape.{inRange, entryOf}
+use Rattle.model.specs.Order.{Order, decode}
+use Rattle.model.specs.Tables.{Model, sound, seen, wordAt, memoryAt, holds, dirty, columnSound}
+use Rattle.model.specs.Step.{Result, shared, wordFound, applied, accessRule, accessed, flushed, perform, step}
+use Rattle.model.specs.Flat.{Flat, FlatResult, wordIn, markIn, markAfter, flatPerform, flatStep}
+use Rattle.model.specs.Agreement.{Agrees}
+use Rattle.model.proofs.Below.{all-below}
+use Rattle.model.proofs.Line.{Unowned, word-found, access-good, access-unmarked, gone-good}
+use Rattle.model.proofs.Entries.{Sized, entry-lt}
+use Rattle.model.proofs.Touched.{LineGood, Tidy, Ready, Leaves}
+use Rattle.model.proofs.Applied.{line-after, leaves}
+use Rattle.model.proofs.Lent.{facts-lent, some-sets}
+use Rattle.model.proofs.Decoded.{Sound, decode-sound}
+
+-- Tables that go with a flat memory: what every order keeps.
+pub record Sim (s : Shape) (t : Model) (f : Flat) : Type 0 where
+  pub range : Is (inRange s)
+  pub sized : Sized s t
+  pub tidy : Tidy s t
+  pub flat-words : length (f .words) ≡ s .lines
+  pub flat-marks : length (f .marks) ≡ s .lines
+  pub good : (a : ℕ) → a < s .lines → LineGood s t a (wordIn f a)
+  pub unmarked : (a : ℕ) → a < s .lines → Is (not (markIn f a)) → Unowned (s .ports) (seen s t a)
+
+-- An order goes well: the answers agree, and what is left goes together.
+pub record Goes (s : Shape) (r : Result) (g : FlatResult) : Type 0 where
+  pub agrees : Agrees (r .answer) (g .answer)
+  pub sim : Sim s (r .after) (g .after)
+
+-- An access that does not write leaves the word.
+unwritten : (acc : Access) (w : ℕ) → Is (not (writes (effectAt acc w .outcome))) → effectAt acc w .word ≡ w
+unfolding effectAt
+unwritten Read w h = refl
+unwritten (Write mask x) w h = absurd (false≢true h)
+unwritten (Swap mask compare x) w h =
+    by-cond (λ (e : Effect). Is (not (writes (e .outcome))) → e .word ≡ w) (eqb (half mask w) compare)
+    (effect Writes (merge mask w x) w true) (effect Fails w w false) (λ _ h. absurd (false≢true h)) (λ _ _. refl) h
+
+module _ (s : Shape) (t : Model) (f : Flat) (sim : Sim s t f) (a : ℕ) (line : a < s .lines) where
+  ready : Ready s t a
+  ready = record { pos = some-sets s (sim .range); sized = sim .sized; tidy = sim .tidy; line = line }
+
+  -- What an order on line a leaves goes with a flat memory that moved at line a alone.
+  sim-after : (t′ : Model) → Leaves s t t′ a → (g : Flat) → length (g .words) ≡ s .lines → length (g .marks) ≡ s .lines
+      → ((b : ℕ) → b ≢ a → wordIn g b ≡ wordIn f b)
+      → ((b : ℕ) → b ≢ a → markIn g b ≡ markIn f b)
+      → LineGood s t′ a (wordIn g a)
+      → (Is (not (markIn g a)) → Unowned (s .ports) (seen s t′ a))
+      → Sim s t′ g
+  sim-after t′ left g lw lm ew em here unowned = record {
+    range = sim .range;
+    sized = left .sized;
+    tidy = left .tidy;
+    flat-words = lw;
+    flat-marks = lm;
+    good = λ b there. elim (ℕ-discrete b a) [ yes e ↦ rw e here | no d ↦ rw (ew b d) (left .good b d there (wordIn f b) (sim .good b there)) ];
+    unmarked = λ b there u. elim (ℕ-discrete b a) [
+      | yes e ↦ rw e (unowned (rw e at u))
+      | no d ↦ left .unowned b d (sim .unmarked b there (rw (em b d) at u))
+    ];
+  }
+
+  -- Refusal 8 is not given.
+  column : Is (columnSound s t a)
+  unfolding columnSound
+  column = all-below (λ p. sound s t (entryOf s a p)) (s .ports) (λ p h. sim .tidy .entry (entryOf s a p) (entry-lt s (some-sets s (sim .range)) a p h))
+
+  module _ (i : ℕ) (port : i < s .ports) where
+    -- A read, a write or a swap.
+    module _ (acc : Access) (m : Mode) where
+      abbrev eff : Effect
+      eff = effectAt acc (wordIn f a)
+
+      abbrev the-rule : Rule
+      the-rule = accessRule s t i a m eff
+
+      found-is : wordFound s t i a ≡ wordIn f a
+      unfolding wordFound
+      found-is = word-found (s .ports) i (seen s t a) (wordAt s t a) (memoryAt t a) (wordIn f a) port (sim .good a line)
+
+      access-line : LineGood s (applied s t i a the-rule (eff .word)) a (eff .word)
+      unfolding accessRule shared dirty
+      access-line =
+          access-good (s .ports) i (seen s t a) (wordAt s t a) (memoryAt t a) (wordIn f a) port (sim .good a line) (eff .outcome) m
+          (eff .word) _ _ _ (line-after s t i a ready port the-rule (eff .word)) (unwritten acc (wordIn f a))
+
+      access-marks : Is (not (markAfter (eff .outcome) m (markIn f a))) → Unowned (s .ports) (seen s (applied s t i a the-rule (eff .word)) a)
+      unfolding accessRule shared dirty
+      access-marks =
+          access-unmarked (s .ports) i (seen s t a) (wordAt s t a) (memoryAt t a) (wordIn f a) port (sim .good a line) (eff .outcome) m
+          (eff .word) _ _ _ (line-after s t i a ready port the-rule (eff .word)) (markIn f a) (sim .unmarked a line)
+
+      access-sim : Sim s (applied s t i a the-rule (eff .word)) (flatPerform f (Asked (ByPort acc m i a)) .after)
+      unfolding flatPerform
+      access-sim =
+          sim-after _ (leaves s t i a ready port the-rule (eff .word)) (flatPerform f (Asked (ByPort acc m i a)) .after)
+          (length-set (f .words) a (eff .word) ∙ sim .flat-words)
+          (length-set (f .marks) a (markAfter (eff .outcome) m (markIn f a)) ∙ sim .flat-marks)
+          (λ b d. getD-set-other (f .words) a b (eff .word) 0 d)
+          (λ b d. getD-set-other (f .marks) a b (markAfter (eff .outcome) m (markIn f a)) false d)
+          (rw (getD-set-same (f .words) a (eff .word) 0 (rw (sim .flat-words) line)) access-line)
+          (λ u. access-marks (rw (getD-set-same (f .marks) a (markAfter (eff .outcome) m (markIn f a)) false (rw (sim .flat-marks) line)) at u))
+
+      access-goes : Goes s (accessed s t i a acc m) (flatPerform f (Asked (ByPort acc m i a)))
+      unfolding accessed flatPerform
+      access-goes = rw found-is (record { agrees = record { refusal = refl; value = λ _. refl; swapped = refl; below-8 = omega arith }; sim = access-sim })
+
+      pub perform-access : Goes s (perform s t (Asked (ByPort acc m i a))) (flatPerform f (Asked (ByPort acc m i a)))
+      unfolding perform
+      perform-access = rw column access-goes
+
+    -- A flush.
+    abbrev flushes : Rule
+    flushes = flushRule (seen s t a i)
+
+    flush-line : Is (holds s t a i) → LineGood s (applied s t i a flushes (wordAt s t a i)) a (wordIn f a)
+    unfolding flushRule snooped updates
+    flush-line v =
+        let after = line-after s t i a ready port flushes (wordAt s t a i) in
+        gone-good (s .ports) i (seen s t a) (wordAt s t a) (memoryAt t a) (wordIn f a) (sim .good a line) _ _ _
+        (after .own) (after .others) (λ q h d x. after .words q h d (rw (after .others q h d) x)) (λ o. after .stored o ∙ sim .good a line .words i port v) (after .unstored)
+
+    flush-marks : Unowned (s .ports) (seen s t a) → Unowned (s .ports) (seen s (applied s t i a flushes (wordAt s t a i)) a)
+    unfolding flushRule snooped
+    flush-marks u p h =
+        let after = line-after s t i a ready port flushes (wordAt s t a i) in
+        elim (ℕ-discrete p i) [ yes e ↦ rw (e, after .own) refl | no d ↦ rw (after .others p h d) (u p h) ]
+
+    flush-held : Is (holds s t a i) → Goes s (flushed s t i a) (flatPerform f (Asked (Flush i a)))
+    unfolding flushed flatPerform
+    flush-held v = rw v (record {
+      agrees = record { refusal = refl; value = λ _. refl; swapped = refl; below-8 = omega arith };
+      sim = sim-after _ (leaves s t i a ready port flushes (wordAt s t a i)) f (sim .flat-words) (sim .flat-marks) (λ b d. refl) (λ b d. refl) (flush-line v) (λ u. flush-marks (sim .unmarked a line u));
+    })
+
+    flush-missed : Is (not (holds s t a i)) → Goes s (flushed s t i a) (flatPerform f (Asked (Flush i a)))
+    unfolding flushed flatPerform
+    flush-missed v = rw (not-true (holds s t a i) v) (record { agrees = record { refusal = refl; value = λ _. refl; swapped = refl; below-8 = omega arith }; sim = sim })
+
+    pub perform-flush : Goes s (perform s t (Asked (Flush i a))) (flatPerform f (Asked (Flush i a)))
+    unfolding perform
+    perform-flush = rw column (by-bool (holds s t a i) flush-held flush-missed)
+
+-- An order, whatever it is taken apart into.
+perform-goes : (s : Shape) (t : Model) (f : Flat) → Sim s t f → (d : Decoded) → Sound s d → Goes s (perform s t d) (flatPerform f d)
+unfolding perform flatPerform
+perform-goes s t f sim (Refused n) h = record { agrees = record { refusal = refl; value = λ _. refl; swapped = refl; below-8 = h }; sim = sim }
+perform-goes s t f sim (Asked (ByPort acc m i a)) h = perform-access s t f sim a (h .1) i (h .0) acc m
+perform-goes s t f sim (Asked (Flush i a)) h = perform-flush s t f sim a (h .1) i (h .0)
+perform-goes s t f sim (Asked (DeviceRead a)) h = record {
+  agrees = record { refusal = refl; value = λ e. sim .good a h .clean (sim .unmarked a h e); swapped = refl; below-8 = omega arith };
+  sim = sim;
+}
+
+pub step-goes : (s : Shape) (t : Model) (f : Flat) → Sim s t f → (o : Order) → Goes s (step s o t) (flatStep s o f)
+unfolding step flatStep
+step-goes s t f sim o =
+    rw (facts-lent s t (record { range = sim .range; sizes = sim .sized })) (perform-goes s t f sim (decode s o) (decode-sound s o))

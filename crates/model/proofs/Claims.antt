@@ -1,0 +1,82 @@
+-- What holds of a step on every input: few memory accesses, and a refusal changes nothing. Assumes nothing.
+use Prim.Native.Nat.{ℕ, _+_, _≤_}
+use mathlib.Core.Path.{_≡_, refl}
+use mathlib.Core.Logic.{_≢_}
+use mathlib.Core.Bool.{Bool, true, false, cond}
+use native.Mathlib.Omega.{arith}
+use lib.Dec.{eqb}
+use Rattle.protocol.specs.Bools.{bit}
+use Rattle.protocol.specs.declared.state.Mode.{Mode}
+use Rattle.protocol.specs.declared.access.Access.{Access}
+use Rattle.protocol.specs.Access.{effectAt}
+use Rattle.protocol.specs.Rules.{flushRule}
+use Rattle.protocol.proofs.Bools.{by-cond}
+use Rattle.model.specs.declared.shape.Shape.{Shape}
+use Rattle.model.specs.declared.order.Call.the-variants.{ByPort, Flush, DeviceRead}
+use Rattle.model.specs.declared.order.Decoded.{Decoded}
+use Rattle.model.specs.declared.order.Decoded.the-variants.{Asked, Refused}
+use Rattle.model.specs.Order.{decode}
+use Rattle.model.specs.Tables.{Model, lentRefusal, columnSound, seen, holds}
+use Rattle.model.specs.Step.{Result, refuse, wordFound, fetches, evicts, accessRule, accessed, flushed, perform, step}
+use Rattle.model.specs.Claims.{FewAccesses, RefusedChangesNothing, AuditSays}
+use Rattle.model.proofs.Audited.{audit-facts, facts-audit}
+
+bit-le : (b : Bool) → bit b ≤ 1
+bit-le true = omega arith
+bit-le false = omega arith
+
+bits-le : (b c : Bool) → bit b + bit c ≤ 2
+bits-le b c = omega (arith, bit-le b, bit-le c)
+
+one-le : {n : ℕ} → n ≤ 1 → n ≤ 2
+one-le h = omega (arith, h)
+
+-- What is to hold of a result: at most one read and two writes.
+abbrev Few : Result → Type 0
+Few r = (r .answer .reads ≤ 1) × (r .answer .writes ≤ 2)
+
+accessed-few : (s : Shape) (t : Model) (i a : ℕ) (acc : Access) (m : Mode) → Few (accessed s t i a acc m)
+unfolding accessed
+accessed-few s t i a acc m =
+    (bit-le (fetches s t i a), bits-le (evicts s t i a) (accessRule s t i a m (effectAt acc (wordFound s t i a)) .stores))
+
+flushed-few : (s : Shape) (t : Model) (i a : ℕ) → Few (flushed s t i a)
+unfolding flushed
+flushed-few s t i a = by-cond Few (holds s t a i) _ _ (λ _. (omega arith, one-le (bit-le (flushRule (seen s t a i) .stores)))) (λ _. (omega arith, omega arith))
+
+perform-few : (s : Shape) (t : Model) (d : Decoded) → Few (perform s t d)
+unfolding perform
+perform-few s t (Refused n) = (omega arith, omega arith)
+perform-few s t (Asked (ByPort acc m i a)) = by-cond Few (columnSound s t a) _ _ (λ _. accessed-few s t i a acc m) (λ _. (omega arith, omega arith))
+perform-few s t (Asked (Flush i a)) = by-cond Few (columnSound s t a) _ _ (λ _. flushed-few s t i a) (λ _. (omega arith, omega arith))
+perform-few s t (Asked (DeviceRead a)) = (omega arith, omega arith)
+
+pub few-accesses : FewAccesses
+unfolding step
+few-accesses s o t = by-cond Few (eqb (lentRefusal s t) 0) _ _ (λ _. perform-few s t (decode s o)) (λ _. (omega arith, omega arith))
+
+-- What is to hold of a result: it is accepted, or a refusal that changes nothing.
+abbrev Still : Model → Result → Type 0
+Still t r = r .answer .refusal ≢ 0 → r ≡ refuse (r .answer .refusal) t
+
+flushed-still : (s : Shape) (t : Model) (i a : ℕ) → Still t (flushed s t i a)
+unfolding flushed
+flushed-still s t i a = by-cond (Still t) (holds s t a i) _ _ (λ _ n. absurd (n refl)) (λ _ n. absurd (n refl))
+
+accessed-still : (s : Shape) (t : Model) (i a : ℕ) (acc : Access) (m : Mode) → Still t (accessed s t i a acc m)
+unfolding accessed
+accessed-still s t i a acc m n = absurd (n refl)
+
+perform-still : (s : Shape) (t : Model) (d : Decoded) → Still t (perform s t d)
+unfolding perform
+perform-still s t (Refused k) = λ n. refl
+perform-still s t (Asked (ByPort acc m i a)) = by-cond (Still t) (columnSound s t a) _ _ (λ _. accessed-still s t i a acc m) (λ _ n. refl)
+perform-still s t (Asked (Flush i a)) = by-cond (Still t) (columnSound s t a) _ _ (λ _. flushed-still s t i a) (λ _ n. refl)
+perform-still s t (Asked (DeviceRead a)) = λ n. absurd (n refl)
+
+pub refused-changes-nothing : RefusedChangesNothing
+unfolding step
+refused-changes-nothing s o t = by-cond (Still t) (eqb (lentRefusal s t) 0) _ _ (λ _. perform-still s t (decode s o)) (λ _ n. refl)
+
+pub audit-says : AuditSays
+audit-says s t = (audit-facts s t, facts-audit s t)

@@ -1,0 +1,112 @@
+-- What the two rule tables keep, state by state: each fact is one test that is computed over all its cases. Assumes nothing.
+use mathlib.Core.Path.{_≡_, refl}
+use mathlib.Core.Bool.{Bool, true, false, _&&_, not}
+use Rattle.protocol.specs.declared.state.Mode.{Mode}
+use Rattle.protocol.specs.declared.state.State.{State}
+use Rattle.protocol.specs.declared.state.State.the-variants.{I, S, E, O, M}
+use Rattle.protocol.specs.declared.access.Outcome.{Outcome}
+use Rattle.protocol.specs.declared.rules.Bus.{Bus}
+use Rattle.protocol.specs.declared.rules.Bus.the-variants.{Quiet, Share, Update, Invalidate, ShareOwned}
+use Rattle.protocol.specs.declared.rules.Rule.{Rule}
+use Rattle.protocol.specs.Bools.{implies}
+use Rattle.protocol.specs.State.{valid, owner, exclusive, isO, modeOf, sameMode}
+use Rattle.protocol.specs.Access.{writes}
+use Rattle.protocol.specs.Rules.{rule, snooped, updates}
+use Rattle.protocol.proofs.Bools.{Is}
+use Rattle.protocol.proofs.Finite.{forBools, forModes, forOutcomes, forStates, forBuses, at-bool, at-mode, at-outcome, at-state, at-bus}
+use Rattle.model.specs.Flat.{markAfter}
+
+-- Two ports may hold one line in these states: equal modes, neither E nor M, and one O at most. A port in I goes with any.
+abbrev pub compatible : State → State → Bool
+compatible x y = implies (valid x && valid y) (sameMode (modeOf x) (modeOf y) && not (exclusive x) && not (exclusive y) && not (isO x && isO y))
+
+-- What is known of a port that sees the line in state s and another that sees it in t: the two are compatible, and the line is shared
+-- or dirty if t says so, and dirty if s says so.
+abbrev pub known : Bool → Bool → State → State → Bool
+known shared dirty s t = compatible s t && implies (valid t) shared && implies (owner t) dirty && implies (owner s) dirty
+
+-- A test of a rule, of the states before, and of the other's state u after.
+abbrev pub Test : Type 0
+Test = Outcome → Mode → Bool → Rule → State → State → State → Bool
+
+abbrev pub tested : Test → Outcome → Mode → Bool → Bool → State → State → Bool
+tested q k m shared dirty s t =
+    implies (known shared dirty s t) (q k m dirty (rule k m shared dirty s) s t (snooped (rule k m shared dirty s .bus) t))
+
+everywhere : Test → Bool
+everywhere q = forOutcomes (λ k. forModes (λ m. forBools (λ shared. forBools (λ dirty. forStates (λ s. forStates (λ t. tested q k m shared dirty s t))))))
+
+abbrev pub Kept : Test → Type 0
+Kept q = (k : Outcome) (m : Mode) (shared dirty : Bool) (s t : State) → Is (tested q k m shared dirty s t)
+
+kept : (q : Test) → Is (everywhere q) → Kept q
+unfolding everywhere
+kept q h k m shared dirty s t =
+    at-state (λ t. tested q k m shared dirty s t)
+    (at-state (λ s. forStates (λ t. tested q k m shared dirty s t))
+    (at-bool (λ dirty. forStates (λ s. forStates (λ t. tested q k m shared dirty s t)))
+    (at-bool (λ shared. forBools (λ dirty. forStates (λ s. forStates (λ t. tested q k m shared dirty s t))))
+    (at-mode (λ m. forBools (λ shared. forBools (λ dirty. forStates (λ s. forStates (λ t. tested q k m shared dirty s t)))))
+    (at-outcome (λ k. forModes (λ m. forBools (λ shared. forBools (λ dirty. forStates (λ s. forStates (λ t. tested q k m shared dirty s t)))))) h k) m) shared) dirty) s) t
+
+-- The two are compatible afterwards.
+abbrev pub paired : Test
+paired k m dirty r s t u = compatible (r .own) u
+
+pub pairs-kept : Kept paired
+unfolding rule snooped everywhere
+pairs-kept = kept paired refl
+
+-- A holder that stays through a write gets the new word.
+abbrev pub informed : Test
+informed k m dirty r s t u = implies (writes k && valid u) (updates (r .bus))
+
+pub informed-kept : Kept informed
+unfolding rule snooped updates everywhere
+informed-kept = kept informed refl
+
+-- Where nothing is stored and no owner is left, nothing was written and there was no owner.
+abbrev pub clean : Test
+clean k m dirty r s t u =
+    implies (not (r .stores) && not (owner (r .own)) && not (owner u)) (not (writes k) && not (owner s) && not (owner t))
+
+pub clean-kept : Kept clean
+unfolding rule snooped everywhere
+clean-kept = kept clean refl
+
+-- Under mark 0 there is no owner.
+abbrev pub unmarked : Test
+unmarked k m dirty r s t u = implies (not (markAfter k m dirty)) (not (owner (r .own)) && not (owner u))
+
+pub unmarked-kept : Kept unmarked
+unfolding rule snooped everywhere
+unmarked-kept = kept unmarked refl
+
+-- Two that are compatible are so after the same command.
+abbrev together : Bus → State → State → Bool
+together b s t = implies (compatible s t) (compatible (snooped b s) (snooped b t))
+
+pub snooped-together : (b : Bus) (s t : State) → Is (implies (compatible s t) (compatible (snooped b s) (snooped b t)))
+unfolding snooped
+snooped-together b s t =
+    at-state (λ t. together b s t) (at-state (λ s. forStates (λ t. together b s t)) (at-bus (λ b. forStates (λ s. forStates (λ t. together b s t))) refl b) s) t
+
+pub snooped-I : (b : Bus) → snooped b I ≡ I
+unfolding snooped
+snooped-I Quiet = refl
+snooped-I (Share m) = refl
+snooped-I (Update m) = refl
+snooped-I Invalidate = refl
+snooped-I ShareOwned = refl
+
+-- Nobody becomes a holder by a command.
+pub snooped-valid : (b : Bus) (t : State) → Is (implies (valid (snooped b t)) (valid t))
+unfolding snooped
+snooped-valid b t = at-state (λ t. implies (valid (snooped b t)) (valid t)) (at-bus (λ b. forStates (λ t. implies (valid (snooped b t)) (valid t))) refl b) t
+
+pub compatible-I : (s : State) → Is (compatible s I)
+compatible-I s = at-state (λ s. compatible s I) refl s
+
+pub compatible-sym : (s t : State) → Is (implies (compatible s t) (compatible t s))
+compatible-sym s t =
+    at-state (λ t. implies (compatible s t) (compatible t s)) (at-state (λ s. forStates (λ t. implies (compatible s t) (compatible t s))) refl s) t

@@ -1,0 +1,55 @@
+-- Tables that fresh, the step and the audit accept: refusals 2 and 3 against plain facts. Assumes nothing.
+use Prim.Native.Nat.{ℕ, zero, suc, _<_}
+use mathlib.Core.Path.{_≡_, refl}
+use mathlib.Core.Bool.{Bool, true, false, cond, _&&_, _||_, not, false≢true}
+use native.Mathlib.Omega.{arith}
+use lib.ListN.{length}
+use lib.Dec.{eqb}
+use borrow.Author.Tests.{eq-eqb, eqb-true}
+use Rattle.protocol.proofs.Bools.{Is, and-l, and-r, both, by-cond}
+use Rattle.model.specs.declared.shape.Shape.{Shape}
+use Rattle.model.specs.Shape.{within, isSets, inRange, entries}
+use Rattle.model.specs.Tables.{Model, sized, lentRefusal}
+use Rattle.model.proofs.Entries.{Sized}
+
+-- The shape is in its range, and memory and tables have its lengths.
+pub record Lent (s : Shape) (t : Model) : Type 0 where
+  pub range : Is (inRange s)
+  pub sizes : Sized s t
+
+sized-facts : (s : Shape) (t : Model) → Is (sized s t) → Sized s t
+unfolding sized
+sized-facts s t h =
+    let m = eqb (length (t .memory)) (s .lines) in
+    let a = eqb (length (t .tags)) (entries s) in
+    let b = eqb (length (t .states)) (entries s) in
+    let c = eqb (length (t .words)) (entries s) in
+    record {
+      memory = eqb-true _ _ (and-l m a (and-l (m && a) b (and-l (m && a && b) c h)));
+      tags = eqb-true _ _ (and-r m a (and-l (m && a) b (and-l (m && a && b) c h)));
+      states = eqb-true _ _ (and-r (m && a) b (and-l (m && a && b) c h));
+      words = eqb-true _ _ (and-r (m && a && b) c h);
+    }
+
+facts-sized : (s : Shape) (t : Model) → Sized s t → Is (sized s t)
+unfolding sized
+facts-sized s t z = both (both (both (eq-eqb _ _ (z .memory)) (eq-eqb _ _ (z .tags))) (eq-eqb _ _ (z .states))) (eq-eqb _ _ (z .words))
+
+pub lent-facts : (s : Shape) (t : Model) → lentRefusal s t ≡ 0 → Lent s t
+unfolding lentRefusal
+lent-facts s t =
+    by-cond (λ n. n ≡ 0 → Lent s t) (inRange s) (cond (sized s t) 0 3) 2
+    (λ r. by-cond (λ n. n ≡ 0 → Lent s t) (sized s t) 0 3 (λ z _. record { range = r; sizes = sized-facts s t z }) (λ _ e. absurd (omega (arith, e))))
+    (λ _ e. absurd (omega (arith, e)))
+
+pub facts-lent : (s : Shape) (t : Model) → Lent s t → lentRefusal s t ≡ 0
+unfolding lentRefusal
+facts-lent s t l = rw (l .range, facts-sized s t (l .sizes))
+
+no-sets : (n : ℕ) → Is (isSets n) → zero < n
+no-sets zero h = absurd (false≢true h)
+no-sets (suc n) h = omega arith
+
+pub some-sets : (s : Shape) → Is (inRange s) → zero < s .sets
+unfolding inRange
+some-sets s h = no-sets (s .sets) (and-r (within 1 8 (s .ports)) (isSets (s .sets)) (and-l _ (within 1 4096 (s .lines)) h))

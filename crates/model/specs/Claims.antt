@@ -1,0 +1,22 @@
+-- What is proved of a step and of the audit on every input, beside the agreement. The proofs are in proofs/Claims.antt.
+use Prim.Native.Nat.{ℕ, _≤_}
+use mathlib.Core.Path.{_≡_}
+use mathlib.Core.Logic.{_≢_, _↔_}
+use mathlib.Core.Bool.{true}
+use Rattle.model.specs.declared.shape.Shape.{Shape}
+use Rattle.model.specs.Order.{Order}
+use Rattle.model.specs.Tables.{Model}
+use Rattle.model.specs.Step.{step, refuse}
+use Rattle.model.specs.Audit.{audit, Coherent}
+
+-- Each order makes at most one memory read and two memory writes.
+abbrev pub FewAccesses : Type 0
+FewAccesses = (s : Shape) (o : Order) (t : Model) → (step s o t .answer .reads ≤ 1) × (step s o t .answer .writes ≤ 2)
+
+-- A refused order answers its number and four zeros, and changes nothing.
+abbrev pub RefusedChangesNothing : Type 0
+RefusedChangesNothing = (s : Shape) (o : Order) (t : Model) → step s o t .answer .refusal ≢ 0 → step s o t ≡ refuse (step s o t .answer .refusal) t
+
+-- The audit says yes exactly where its plain facts hold.
+abbrev pub AuditSays : Type 0
+AuditSays = (s : Shape) (t : Model) → (audit s t ≡ true) ↔ Coherent s t

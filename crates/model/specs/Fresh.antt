@@ -1,0 +1,16 @@
+-- A fresh model.
+use Prim.Native.Nat.{ℕ}
+use mathlib.Core.Bool.{cond}
+use lib.ListN.{replicate}
+use lib.Dec.{eqb}
+use Rattle.model.specs.declared.shape.Shape.{Shape}
+use Rattle.model.specs.Shape.{entries}
+use Rattle.model.specs.Tables.{Model, model, lentRefusal}
+
+-- Zeros in all three tables; memory stays as lent.
+unfoldable pub zeroed : Shape → Model → Model
+zeroed s t = model (t .memory) (replicate (entries s) 0) (replicate (entries s) 0) (replicate (entries s) 0)
+
+-- Making a fresh model answers refusal 2 or 3, and then changes nothing, or 0.
+unfoldable pub fresh : Shape → Model → Model
+fresh s t = cond (eqb (lentRefusal s t) 0) (zeroed s t) t

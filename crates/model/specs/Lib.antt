@@ -1,0 +1,14 @@
+-- The definitions, from the shape up to the histories, and the statements of the theorems over them.
+pub mod Shape
+pub mod Order
+pub mod Below
+pub mod Tables
+pub mod Step
+pub mod Fresh
+pub mod Audit
+pub mod Find
+pub mod Flat
+pub mod Agreement
+pub mod Marks
+pub mod Claims
+pub mod Fourteen

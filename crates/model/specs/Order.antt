@@ -1,0 +1,56 @@
+-- An order: a word and an operand, and what the word says.
+use Prim.Native.Nat.{ℕ, _/_, _%_, _^_}
+use mathlib.Core.Bool.{Bool, cond, _&&_, _||_, not}
+use lib.Dec.{eqb, ltb, leb}
+use Rattle.protocol.specs.declared.state.Mode.{Mode}
+use Rattle.protocol.specs.declared.state.Mode.the-variants.{Through, Back}
+use Rattle.protocol.specs.declared.access.Access.the-variants.{Read, Write, Swap}
+use Rattle.model.specs.declared.shape.Shape.{Shape}
+use Rattle.model.specs.declared.order.Call.{Call}
+use Rattle.model.specs.declared.order.Call.the-variants.{ByPort, Flush, DeviceRead}
+use Rattle.model.specs.declared.order.Decoded.{Decoded}
+use Rattle.model.specs.declared.order.Decoded.the-variants.{Asked, Refused}
+
+pub record Order : Type 0 where
+  pub word : ℕ
+  pub operand : ℕ
+
+-- The n bits of w from bit k up.
+abbrev pub bits : ℕ → ℕ → ℕ → ℕ
+bits w k n = w / 2 ^ k % 2 ^ n
+
+-- The mode in which an order runs: bit 3, 1 for write back.
+abbrev pub modeIn : ℕ → Mode
+modeIn w = cond (eqb (bits w 3 1) 1) Back Through
+
+-- The kinds that name a port: read, write, compare-and-swap and flush.
+abbrev pub hasPort : ℕ → Bool
+hasPort kind = ltb kind 4
+
+-- Refusals 4 to 7, in checking order, else the call.
+unfoldable pub checked : Shape → ℕ → ℕ → ℕ → ℕ → Call → Decoded
+checked s kind port mask line call =
+    cond (leb 5 kind) (Refused 4)
+    (cond (hasPort kind && leb (s .ports) port) (Refused 5)
+    (cond (leb (s .lines) line) (Refused 6)
+    (cond (eqb kind 2 && not (eqb mask 0x0F || eqb mask 0xF0)) (Refused 7)
+    (Asked call))))
+
+-- What the kinds 0 to 4 ask: read, write, compare-and-swap, flush and device read. Each takes the fields that it uses.
+unfoldable pub callOf : ℕ → Mode → ℕ → ℕ → ℕ → ℕ → ℕ → Call
+callOf kind m port mask line compare x =
+    cond (eqb kind 0) (ByPort Read m port line)
+    (cond (eqb kind 1) (ByPort (Write mask x) m port line)
+    (cond (eqb kind 2) (ByPort (Swap mask compare x) m port line)
+    (cond (eqb kind 3) (Flush port line)
+    (DeviceRead line))))
+
+-- The fields of the word: 0–2 kind, 3 mode, 4–7 port, 8–15 byte mask, 16–31 line, 32–63 compare value.
+unfoldable pub decode : Shape → Order → Decoded
+decode s o =
+    let kind = bits (o .word) 0 3 in
+    let port = bits (o .word) 4 4 in
+    let mask = bits (o .word) 8 8 in
+    let line = bits (o .word) 16 16 in
+    let compare = bits (o .word) 32 32 in
+    checked s kind port mask line (callOf kind (modeIn (o .word)) port mask line compare (o .operand))

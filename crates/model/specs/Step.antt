@@ -1,0 +1,122 @@
+-- The step: one order on main memory and the tables.
+use Prim.Native.Nat.{ℕ, zero, suc, _+_}
+use mathlib.Core.Bool.{Bool, cond, _&&_, _||_, not}
+use mathlib.Core.List.{List}
+use lib.ListN.{getD, set}
+use lib.Dec.{eqb}
+use Rattle.protocol.specs.declared.state.Mode.{Mode}
+use Rattle.protocol.specs.declared.state.State.{State}
+use Rattle.protocol.specs.declared.access.Access.{Access}
+use Rattle.protocol.specs.declared.access.Effect.{Effect}
+use Rattle.protocol.specs.declared.rules.Rule.{Rule}
+use Rattle.protocol.specs.State.{code, valid, owner}
+use Rattle.protocol.specs.Access.{effectAt}
+use Rattle.protocol.specs.Rules.{rule, flushRule, snooped, updates}
+use Rattle.protocol.specs.Bools.{bit}
+use Rattle.model.specs.declared.shape.Shape.{Shape}
+use Rattle.model.specs.declared.order.Call.{Call}
+use Rattle.model.specs.declared.order.Call.the-variants.{ByPort, Flush, DeviceRead}
+use Rattle.model.specs.declared.order.Decoded.{Decoded}
+use Rattle.model.specs.declared.order.Decoded.the-variants.{Asked, Refused}
+use Rattle.model.specs.declared.step.Answer.{Answer}
+use Rattle.model.specs.Shape.{tagOf, entryOf}
+use Rattle.model.specs.Order.{Order, decode}
+use Rattle.model.specs.Below.{anyBelow, lowest, atOr}
+use Rattle.model.specs.Tables.{Model, lentRefusal, stateAt, homeAt, seen, wordAt, memoryAt, holds, owns, dirty, columnSound}
+
+pub record Result : Type 0 where
+  pub answer : Answer
+  pub after : Model
+
+abbrev pub result : Answer → Model → Result
+result x t = record { answer = x; after = t }
+
+-- An accepted order's numbers: value, swapped, memory reads and writes.
+abbrev pub accepted : ℕ → ℕ → ℕ → ℕ → Answer
+accepted v s r w = record { refusal = 0; value = v; swapped = s; reads = r; writes = w }
+
+-- A refused order answers its number and four zeros, and changes nothing.
+abbrev pub refused : ℕ → Answer
+refused n = record { refusal = n; value = 0; swapped = 0; reads = 0; writes = 0 }
+
+abbrev pub refuse : ℕ → Model → Result
+refuse n t = result (refused n) t
+
+-- A word stored at line a, if b says so.
+abbrev pub store : Bool → ℕ → ℕ → List ℕ → List ℕ
+store b a w l = cond b (set l a w) l
+
+-- A list with f p at the number `at p` for each port p below n.
+unfoldable pub putBelow : (ℕ → ℕ) → (ℕ → ℕ) → ℕ → List ℕ → List ℕ
+putBelow at f zero l = l
+putBelow at f (suc n) l = set (putBelow at f n l) (at n) (f n)
+
+-- Below, i is the port and a the line.
+module _ (s : Shape) (t : Model) (i a : ℕ) where
+  -- Another port holds the line.
+  unfoldable pub shared : Bool
+  shared = anyBelow (λ p. not (eqb p i) && holds s t a p) (s .ports)
+
+  -- The word that the port finds: its own on a hit, else the lowest-numbered owner's, else memory's.
+  unfoldable pub wordFound : ℕ
+  wordFound = cond (holds s t a i) (wordAt s t a i) (atOr (wordAt s t a) (memoryAt t a) (lowest (owns s t a) (s .ports)))
+
+  -- The word is fetched from memory: a miss, and there is no owner.
+  unfoldable pub fetches : Bool
+  fetches = not (holds s t a i) && not (dirty s t a)
+
+  -- A miss takes the port's entry. Its line is the victim; if the entry is O or M, it is evicted: its word is stored at its line.
+  abbrev pub victim : ℕ
+  victim = homeAt s t (entryOf s a i)
+
+  unfoldable pub evicts : Bool
+  evicts = not (holds s t a i) && owner (stateAt t (entryOf s a i))
+
+  -- The state byte and the word of port p's entry at the line's index, after rule r gave the line the word w: the port's own; another
+  -- holder's, by the snoop table; any other entry's stays.
+  unfoldable pub byteAfter : Rule → ℕ → ℕ
+  byteAfter r p = cond (eqb p i) (code (r .own)) (cond (holds s t a p) (code (snooped (r .bus) (seen s t a p))) (getD (t .states) (entryOf s a p) 0))
+
+  unfoldable pub wordAfter : Rule → ℕ → ℕ → ℕ
+  wordAfter r w p = cond (eqb p i || holds s t a p && updates (r .bus)) w (wordAt s t a p)
+
+  -- Memory and tables after rule r gave the line the word w: the evicted word is stored first.
+  unfoldable pub applied : Rule → ℕ → Model
+  applied r w = record {
+    memory = store (r .stores) a w (store evicts victim (wordAt s t a i) (t .memory));
+    tags = set (t .tags) (entryOf s a i) (tagOf s a);
+    states = putBelow (entryOf s a) (byteAfter r) (s .ports) (t .states);
+    words = putBelow (entryOf s a) (wordAfter r w) (s .ports) (t .words);
+  }
+
+  -- The rule of the own table for an access that has the effect e.
+  unfoldable pub accessRule : Mode → Effect → Rule
+  accessRule m e = rule (e .outcome) m shared (dirty s t a) (seen s t a i)
+
+  -- A read, a write or a compare-and-swap.
+  unfoldable pub accessed : Access → Mode → Result
+  accessed acc m =
+      let e = effectAt acc wordFound in
+      let r = accessRule m e in
+      result (accepted (e .value) (bit (e .swapped)) (bit fetches) (bit evicts + bit (r .stores))) (applied r (e .word))
+
+  -- A flush: nothing changes where the port does not hold the line.
+  unfoldable pub flushed : Result
+  flushed =
+      let r = flushRule (seen s t a i) in
+      cond (holds s t a i) (result (accepted 0 0 0 (bit (r .stores))) (applied r (wordAt s t a i))) (result (accepted 0 0 0 0) t)
+
+-- Refusal 8, where an entry at the line's index is not sound.
+abbrev pub ifSound : Shape → Model → ℕ → Result → Result
+ifSound s t a r = cond (columnSound s t a) r (refuse 8 t)
+
+-- A device read fetches memory's word and looks at no entry.
+unfoldable pub perform : Shape → Model → Decoded → Result
+perform s t (Refused n) = refuse n t
+perform s t (Asked (ByPort acc m i a)) = ifSound s t a (accessed s t i a acc m)
+perform s t (Asked (Flush i a)) = ifSound s t a (flushed s t i a)
+perform s t (Asked (DeviceRead a)) = result (accepted (memoryAt t a) 0 1 0) t
+
+-- Refusals 2 and 3 come first, then those of the order.
+unfoldable pub step : Shape → Order → Model → Result
+step s o t = cond (eqb (lentRefusal s t) 0) (perform s t (decode s o)) (refuse (lentRefusal s t) t)

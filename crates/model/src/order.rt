@@ -1,0 +1,16 @@
+// An order, taken apart.
+use protocol::access::Access;
+use protocol::state::Mode;
+
+// What an order asks: an access in a mode, by a port, of a line; a flush, by a port, of a line; a device read of a line.
+pub enum Call {
+    ByPort(Access, Mode, usize, usize),
+    Flush(usize, usize),
+    DeviceRead(usize),
+}
+
+// An order word and its operand, taken apart: the call, or the number of the refusal.
+pub enum Decoded {
+    Asked(Call),
+    Refused(u64),
+}
