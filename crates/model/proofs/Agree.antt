@@ -1,41 +1,38 @@
 -- One order: the model answers as the flat memory does, and still goes with it. Assumes nothing.
-use Prim.Native.Nat.{ℕ, zero, _<_}
-use mathlib.Core.Path.{_≡_, refl, sym, _∙_}
+use Prim.Native.Nat.{ℕ, _<_}
+use mathlib.Core.Path.{_≡_, refl, _∙_, ap}
 use mathlib.Core.Logic.{_≢_}
-use mathlib.Core.Bool.{Bool, true, false, cond, not, false≢true}
+use mathlib.Core.Bool.{not}
 use native.Mathlib.Omega.{arith}
 use native.Mathlib.Decide.{ℕ-discrete}
-use lib.ListN.{getD, length, length-set}
-use lib.Seq.{getD-set-same, getD-set-other}
-use lib.Dec.{eqb}
+use lib.ListN.{length}
 use borrow.Author.Tests.{not-true}
 use Rattle.protocol.specs.declared.state.Mode.{Mode}
 use Rattle.protocol.specs.declared.access.Access.{Access}
-use Rattle.protocol.specs.declared.access.Access.the-variants.{Read, Write, Swap}
-use Rattle.protocol.specs.declared.access.Outcome.the-variants.{Fails, Writes}
 use Rattle.protocol.specs.declared.access.Effect.{Effect}
 use Rattle.protocol.specs.declared.rules.Rule.{Rule}
-use Rattle.protocol.specs.State.{valid}
-use Rattle.protocol.specs.Word.{merge, half}
-use Rattle.protocol.specs.Access.{effect, effectAt, writes}
-use Rattle.protocol.specs.Rules.{flushRule, snooped, updates}
-use Rattle.protocol.proofs.Bools.{Is, by-bool, by-cond, mp}
+use Rattle.protocol.specs.Access.{effectAt}
+use Rattle.protocol.specs.Rules.{flushRule}
+use Rattle.protocol.proofs.Bools.{Is, by-bool}
+use Rattle.protocol.proofs.Effects.{unwritten}
+use Rattle.protocol.proofs.Kept.{flush-own, flush-bus, flush-stores, quiet-same, quiet-keeps}
 use Rattle.model.specs.declared.shape.Shape.{Shape}
 use Rattle.model.specs.declared.order.Call.the-variants.{ByPort, Flush, DeviceRead}
 use Rattle.model.specs.declared.order.Decoded.{Decoded}
 use Rattle.model.specs.declared.order.Decoded.the-variants.{Asked, Refused}
 use Rattle.model.specs.Shape.{inRange, entryOf}
 use Rattle.model.specs.Order.{Order, decode}
-use Rattle.model.specs.Tables.{Model, sound, seen, wordAt, memoryAt, holds, dirty, columnSound}
+use Rattle.model.specs.Tables.{Model, sound, seen, wordAt, memoryAt, holds, owns, dirty, columnSound}
 use Rattle.model.specs.Step.{Result, shared, wordFound, applied, accessRule, accessed, flushed, perform, step}
-use Rattle.model.specs.Flat.{Flat, FlatResult, wordIn, markIn, markAfter, flatPerform, flatStep}
+use Rattle.model.specs.Flat.{Flat, FlatResult, wordIn, markIn, flatAccess, flatPerform, flatStep}
 use Rattle.model.specs.Agreement.{Agrees}
-use Rattle.model.proofs.Below.{all-below}
-use Rattle.model.proofs.Line.{Unowned, word-found, access-good, access-unmarked, gone-good}
+use Rattle.model.proofs.Below.{all-below, none-below}
+use Rattle.model.proofs.Line.{Unowned, After, word-found, access-good, access-ownerless, gone-good}
 use Rattle.model.proofs.Entries.{Sized, entry-lt}
 use Rattle.model.proofs.Touched.{LineGood, Tidy, Ready, Leaves}
 use Rattle.model.proofs.Applied.{line-after, leaves}
 use Rattle.model.proofs.Lent.{facts-lent, some-sets}
+use Rattle.model.proofs.Moved.{Moved, access-moves, unmarked-access}
 use Rattle.model.proofs.Decoded.{Sound, decode-sound}
 
 -- Tables that go with a flat memory: what every order keeps.
@@ -52,15 +49,6 @@ pub record Sim (s : Shape) (t : Model) (f : Flat) : Type 0 where
 pub record Goes (s : Shape) (r : Result) (g : FlatResult) : Type 0 where
   pub agrees : Agrees (r .answer) (g .answer)
   pub sim : Sim s (r .after) (g .after)
-
--- An access that does not write leaves the word.
-unwritten : (acc : Access) (w : ℕ) → Is (not (writes (effectAt acc w .outcome))) → effectAt acc w .word ≡ w
-unfolding effectAt
-unwritten Read w h = refl
-unwritten (Write mask x) w h = absurd (false≢true h)
-unwritten (Swap mask compare x) w h =
-    by-cond (λ (e : Effect). Is (not (writes (e .outcome))) → e .word ≡ w) (eqb (half mask w) compare)
-    (effect Writes (merge mask w x) w true) (effect Fails w w false) (λ _ h. absurd (false≢true h)) (λ _ _. refl) h
 
 module _ (s : Shape) (t : Model) (f : Flat) (sim : Sim s t f) (a : ℕ) (line : a < s .lines) where
   ready : Ready s t a
@@ -110,47 +98,57 @@ module _ (s : Shape) (t : Model) (f : Flat) (sim : Sim s t f) (a : ℕ) (line : 
           access-good (s .ports) i (seen s t a) (wordAt s t a) (memoryAt t a) (wordIn f a) port (sim .good a line) (eff .outcome) m
           (eff .word) _ _ _ (line-after s t i a ready port the-rule (eff .word)) (unwritten acc (wordIn f a))
 
-      access-marks : Is (not (markAfter (eff .outcome) m (markIn f a))) → Unowned (s .ports) (seen s (applied s t i a the-rule (eff .word)) a)
+      moves : Moved f (flatAccess f acc m a) eff m a
+      moves = access-moves f m a acc
+
+      access-marks : Is (not (markIn (flatAccess f acc m a .after) a)) → Unowned (s .ports) (seen s (applied s t i a the-rule (eff .word)) a)
       unfolding accessRule shared dirty
-      access-marks =
-          access-unmarked (s .ports) i (seen s t a) (wordAt s t a) (memoryAt t a) (wordIn f a) port (sim .good a line) (eff .outcome) m
-          (eff .word) _ _ _ (line-after s t i a ready port the-rule (eff .word)) (markIn f a) (sim .unmarked a line)
+      access-marks u =
+          access-ownerless (s .ports) i (seen s t a) (wordAt s t a) (memoryAt t a) (wordIn f a) port (sim .good a line) (eff .outcome) m
+          (eff .word) _ _ _ (line-after s t i a ready port the-rule (eff .word))
+          (unmarked-access (eff .outcome) m (markIn f a) (dirty s t a) (λ o. none-below (owns s t a) (s .ports) (sim .unmarked a line o)) (rw (moves .mark (rw (sim .flat-marks) line)) at u))
 
-      access-sim : Sim s (applied s t i a the-rule (eff .word)) (flatPerform f (Asked (ByPort acc m i a)) .after)
-      unfolding flatPerform
+      access-sim : Sim s (applied s t i a the-rule (eff .word)) (flatAccess f acc m a .after)
       access-sim =
-          sim-after _ (leaves s t i a ready port the-rule (eff .word)) (flatPerform f (Asked (ByPort acc m i a)) .after)
-          (length-set (f .words) a (eff .word) ∙ sim .flat-words)
-          (length-set (f .marks) a (markAfter (eff .outcome) m (markIn f a)) ∙ sim .flat-marks)
-          (λ b d. getD-set-other (f .words) a b (eff .word) 0 d)
-          (λ b d. getD-set-other (f .marks) a b (markAfter (eff .outcome) m (markIn f a)) false d)
-          (rw (getD-set-same (f .words) a (eff .word) 0 (rw (sim .flat-words) line)) access-line)
-          (λ u. access-marks (rw (getD-set-same (f .marks) a (markAfter (eff .outcome) m (markIn f a)) false (rw (sim .flat-marks) line)) at u))
+          sim-after _ (leaves s t i a ready port the-rule (eff .word)) (flatAccess f acc m a .after)
+          (moves .words-length ∙ sim .flat-words) (moves .marks-length ∙ sim .flat-marks) (moves .word-other) (moves .mark-other)
+          (rw (moves .word (rw (sim .flat-words) line)) access-line) access-marks
 
-      access-goes : Goes s (accessed s t i a acc m) (flatPerform f (Asked (ByPort acc m i a)))
-      unfolding accessed flatPerform
-      access-goes = rw found-is (record { agrees = record { refusal = refl; value = λ _. refl; swapped = refl; below-8 = omega arith }; sim = access-sim })
+      access-goes : Goes s (accessed s t i a acc m) (flatAccess f acc m a)
+      unfolding accessed
+      access-goes = rw found-is (record {
+        agrees = rw (moves .answer) (record { refusal = refl; value = λ _. refl; swapped = refl; below-8 = omega arith });
+        sim = access-sim;
+      })
 
       pub perform-access : Goes s (perform s t (Asked (ByPort acc m i a))) (flatPerform f (Asked (ByPort acc m i a)))
-      unfolding perform
+      unfolding perform flatPerform
       perform-access = rw column access-goes
 
     -- A flush.
     abbrev flushes : Rule
     flushes = flushRule (seen s t a i)
 
-    flush-line : Is (holds s t a i) → LineGood s (applied s t i a flushes (wordAt s t a i)) a (wordIn f a)
-    unfolding flushRule snooped updates
-    flush-line v =
-        let after = line-after s t i a ready port flushes (wordAt s t a i) in
-        gone-good (s .ports) i (seen s t a) (wordAt s t a) (memoryAt t a) (wordIn f a) (sim .good a line) _ _ _
-        (after .own) (after .others) (λ q h d x. after .words q h d (rw (after .others q h d) x)) (λ o. after .stored o ∙ sim .good a line .words i port v) (after .unstored)
+    abbrev flushedTables : Model
+    flushedTables = applied s t i a flushes (wordAt s t a i)
 
-    flush-marks : Unowned (s .ports) (seen s t a) → Unowned (s .ports) (seen s (applied s t i a flushes (wordAt s t a i)) a)
-    unfolding flushRule snooped
+    flush-after : After (s .ports) i flushes (wordAt s t a i) (seen s t a) (wordAt s t a) (memoryAt t a) (seen s flushedTables a) (wordAt s flushedTables a) (memoryAt flushedTables a)
+    flush-after = line-after s t i a ready port flushes (wordAt s t a i)
+
+    flush-others : (q : ℕ) → q < s .ports → q ≢ i → seen s flushedTables a q ≡ seen s t a q
+    flush-others q h d = flush-after .others q h d ∙ rw (flush-bus (seen s t a i)) (quiet-same (seen s t a q))
+
+    flush-line : Is (holds s t a i) → LineGood s flushedTables a (wordIn f a)
+    flush-line v =
+        gone-good (s .ports) i (seen s t a) (wordAt s t a) (memoryAt t a) (wordIn f a) (sim .good a line) _ _ _
+        (flush-after .own ∙ flush-own (seen s t a i)) flush-others
+        (λ q h d x. flush-after .words q h d (rw (flush-others q h d) x) ∙ rw (flush-bus (seen s t a i), quiet-keeps))
+        (λ o. flush-after .stored (flush-stores (seen s t a i) ∙ o) ∙ sim .good a line .words i port v)
+        (λ o. flush-after .unstored (ap not (flush-stores (seen s t a i)) ∙ o))
+
+    flush-marks : Unowned (s .ports) (seen s t a) → Unowned (s .ports) (seen s flushedTables a)
     flush-marks u p h =
-        let after = line-after s t i a ready port flushes (wordAt s t a i) in
-        elim (ℕ-discrete p i) [ yes e ↦ rw (e, after .own) refl | no d ↦ rw (after .others p h d) (u p h) ]
+        elim (ℕ-discrete p i) [ yes e ↦ rw (e, flush-after .own, flush-own (seen s t a i)) refl | no d ↦ rw (flush-others p h d) (u p h) ]
 
     flush-held : Is (holds s t a i) → Goes s (flushed s t i a) (flatPerform f (Asked (Flush i a)))
     unfolding flushed flatPerform

@@ -16,14 +16,14 @@ use Rattle.model.specs.declared.shape.Shape.{Shape}
 use Rattle.model.specs.Shape.{indexOf, tagOf, entryOf}
 use Rattle.model.specs.Tables.{Model, stateAt, seen, wordAt, memoryAt, holds, owns}
 use Rattle.model.specs.Step.{store, victim, evicts, byteAfter, wordAfter, applied}
-use Rattle.model.proofs.Kept.{snooped-I, snooped-valid}
+use Rattle.protocol.proofs.Kept.{snooped-I, snooped-valid}
 use Rattle.model.proofs.Line.{After}
 use Rattle.model.proofs.Entries.{Sized, putBelow-length, putBelow-other, putBelow-same, entry-lt, entry-index, entry-inj, same-line, home-index, home-tag, seen-tag, seen-here, same-entry, same-at, holds-one}
 use Rattle.model.proofs.Touched.{Ready, Touched, Leaves, seen-own, seen-other, other-good, other-unowned, tidy-after}
 
 -- A store that may not happen.
 store-miss : (c : Bool) (h x : ℕ) (l : List ℕ) (b : ℕ) → (Is c → b ≢ h) → getD (store c h x l) b 0 ≡ getD l b 0
-store-miss true h x l b d = getD-set-other l h b x 0 (d refl)
+store-miss true h x l b d = getD-set-other l h b _ 0 (d refl)
 store-miss false h x l b d = refl
 
 store-hit : (c : Bool) (h x : ℕ) (l : List ℕ) (b : ℕ) → Is c → b ≡ h → b < length l → getD (store c h x l) b 0 ≡ x
@@ -31,7 +31,7 @@ store-hit true h x l b c e k = rw e (getD-set-same l h x 0 (rw e at k))
 store-hit false h x l b c e k = absurd (false≢true c)
 
 store-length : (c : Bool) (h x : ℕ) (l : List ℕ) → length (store c h x l) ≡ length l
-store-length true h x l = length-set l h x
+store-length true h x l = length-set l h _
 store-length false h x l = refl
 
 module _ (s : Shape) (t : Model) (i a : ℕ) (ready : Ready s t a) (port : i < s .ports) (r : Rule) (w : ℕ) where
@@ -60,11 +60,11 @@ module _ (s : Shape) (t : Model) (i a : ℕ) (ready : Ready s t a) (port : i < s
   unfolding applied byteAfter wordAfter wordAt
   touched = record {
     port = port;
-    tags-apart = λ k d. getD-set-other (t .tags) (entryOf s a i) k (tagOf s a) 0 (not-entry k d i);
+    tags-apart = λ k d. getD-set-other (t .tags) (entryOf s a i) k _ 0 (not-entry k d i);
     bytes-apart = λ k d. putBelow-other (entryOf s a) (byteAfter s t i a r) (s .ports) (t .states) k (λ q _. not-entry k d q);
     words-apart = λ k d. putBelow-other (entryOf s a) (wordAfter s t i a r w) (s .ports) (t .words) k (λ q _. not-entry k d q);
     tag-own = getD-set-same (t .tags) (entryOf s a i) (tagOf s a) 0 (rw (sized .tags) (entry-lt s pos a i port));
-    tag-other = λ p d. getD-set-other (t .tags) (entryOf s a i) (entryOf s a p) (tagOf s a) 0 (λ e. d (entry-inj s pos a p i e));
+    tag-other = λ p d. getD-set-other (t .tags) (entryOf s a i) (entryOf s a p) _ 0 (λ e. d (entry-inj s pos a p i e));
     byte-own = byte-at i port ∙ rw (eq-eqb i i refl);
     byte-holder = λ p h d v. byte-at p h ∙ rw (ne-eqb p i d, v);
     byte-passed = λ p h d v. byte-at p h ∙ rw (ne-eqb p i d, not-valid (seen s t a p) v);
@@ -87,13 +87,25 @@ module _ (s : Shape) (t : Model) (i a : ℕ) (ready : Ready s t a) (port : i < s
       let was : Is (holds s t a p) = mp (snooped-valid (r .bus) (seen s t a p)) (rw (others-after p h d) at v) in
       word-at p h ∙ rw (ne-eqb p i d, was)
 
+  -- An entry that is taken is evicted exactly if it is an owner's.
+  evicts-miss : Is (evicts s t i a) → Is (not (holds s t a i))
+  unfolding evicts
+  evicts-miss ev = search (and-l, and-r)
+
+  evicts-owner : Is (evicts s t i a) → Is (owner (stateAt t (entryOf s a i)))
+  unfolding evicts
+  evicts-owner ev = search (and-l, and-r)
+
+  owner-evicts : Is (not (holds s t a i)) → Is (owner (stateAt t (entryOf s a i))) → Is (evicts s t i a)
+  unfolding evicts
+  owner-evicts n o = both n o
+
   -- What is evicted is another line's word.
   victim-other : Is (evicts s t i a) → a ≢ victim s t i a
-  unfolding evicts
   victim-other ev e =
       not-both {a = holds s t a i}
-      (rw (seen-here s t a i (sym (home-tag s pos t a i) ∙ sym (ap (λ x. x / s .sets) e))) (owner-valid (stateAt t (entryOf s a i)) (and-r (not (holds s t a i)) _ ev)))
-      (and-l _ (owner (stateAt t (entryOf s a i))) ev)
+      (rw (seen-here s t a i (sym (home-tag s pos t a i) ∙ sym (ap (λ x. x / s .sets) e))) (owner-valid (stateAt t (entryOf s a i)) (evicts-owner ev)))
+      (evicts-miss ev)
 
   -- Memory after the evicted word was stored, and before the line's word is.
   abbrev written : List ℕ
@@ -123,32 +135,31 @@ module _ (s : Shape) (t : Model) (i a : ℕ) (ready : Ready s t a) (port : i < s
     state-there near e = seen-here s t b i (same-at s pos a b other near i (t .tags) ∙ e) ∙ ap (λ k. stateAt t k) (same-entry s pos a b other near i)
 
     memory-written : b < s .lines → Is (owns s t b i) → indexOf s b ≡ indexOf s a → memoryAt now b ≡ wordAt s t b i
-    unfolding evicts wordAt
+    unfolding wordAt
     memory-written line o near =
         let v : Is (holds s t b i) = owner-valid (seen s t b i) o in
         let tag : getD (t .tags) (entryOf s a i) 0 ≡ tagOf s b = sym (same-at s pos a b other near i (t .tags)) ∙ seen-tag s t b i v in
         memory-other ∙
         store-hit (evicts s t i a) (victim s t i a) (wordAt s t a i) (t .memory) b
-        (both (holds-one s pos a b other near t i v) (rw (state-there near tag) at o))
+        (owner-evicts (holds-one s pos a b other near t i v) (rw (state-there near tag) at o))
         (same-line s pos b (victim s t i a) (sym tag ∙ sym (home-tag s pos t a i)) (near ∙ sym (home-index s pos t a i)))
         (rw (sized .memory) line)
         ∙ sym (same-at s pos a b other near i (t .words))
 
     memory-left : Is (not (owns s t b i)) → memoryAt now b ≡ memoryAt t b
-    unfolding evicts
     memory-left o =
         memory-other ∙
         store-miss (evicts s t i a) (victim s t i a) (wordAt s t a i) (t .memory) b
         (λ ev e.
         let near : indexOf s b ≡ indexOf s a = ap (λ x. x % s .sets) e ∙ home-index s pos t a i in
         let tag : getD (t .tags) (entryOf s a i) 0 ≡ tagOf s b = sym (home-tag s pos t a i) ∙ sym (ap (λ x. x / s .sets) e) in
-        not-both {a = owns s t b i} (rw (state-there near tag) (and-r (not (holds s t a i)) (owner (stateAt t (entryOf s a i))) ev)) o)
+        not-both {a = owns s t b i} (rw (state-there near tag) (evicts-owner ev)) o)
 
   sized-after : Sized s now
   unfolding applied
   sized-after = record {
     memory = store-length (r .stores) a w written ∙ store-length (evicts s t i a) (victim s t i a) (wordAt s t a i) (t .memory) ∙ sized .memory;
-    tags = length-set (t .tags) (entryOf s a i) (tagOf s a) ∙ sized .tags;
+    tags = length-set (t .tags) (entryOf s a i) _ ∙ sized .tags;
     states = putBelow-length (entryOf s a) (byteAfter s t i a r) (s .ports) (t .states) ∙ sized .states;
     words = putBelow-length (entryOf s a) (wordAfter s t i a r w) (s .ports) (t .words) ∙ sized .words;
   }

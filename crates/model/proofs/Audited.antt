@@ -21,7 +21,7 @@ use Rattle.model.specs.Tables.{Model, lentRefusal, sound, seen, wordAt, 
 use Rattle.model.specs.Audit.{entriesSound, everyTwo, bothHold, equalWords, equalModes, exclusiveAlone, oneO, cleanEqual, lineSound, coherent, audit, Coherent}
 use Rattle.model.specs.Agreement.{lineWord}
 use Rattle.model.proofs.Below.{all-below, below-all, none-below, below-none, lowest-gives}
-use Rattle.model.proofs.Kept.{compatible}
+use Rattle.protocol.proofs.Kept.{compatible}
 use Rattle.model.proofs.Line.{Good}
 use Rattle.model.proofs.Touched.{LineGood, Tidy}
 

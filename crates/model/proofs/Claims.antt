@@ -1,5 +1,5 @@
 -- What holds of a step on every input: few memory accesses, and a refusal changes nothing. Assumes nothing.
-use Prim.Native.Nat.{ℕ, _+_, _≤_}
+use Prim.Native.Nat.{ℕ, _≤_}
 use mathlib.Core.Path.{_≡_, refl}
 use mathlib.Core.Logic.{_≢_}
 use mathlib.Core.Bool.{Bool, true, false, cond}
@@ -25,12 +25,6 @@ bit-le : (b : Bool) → bit b ≤ 1
 bit-le true = omega arith
 bit-le false = omega arith
 
-bits-le : (b c : Bool) → bit b + bit c ≤ 2
-bits-le b c = omega (arith, bit-le b, bit-le c)
-
-one-le : {n : ℕ} → n ≤ 1 → n ≤ 2
-one-le h = omega (arith, h)
-
 -- What is to hold of a result: at most one read and two writes.
 abbrev Few : Result → Type 0
 Few r = (r .answer .reads ≤ 1) × (r .answer .writes ≤ 2)
@@ -38,11 +32,12 @@ Few r = (r .answer .reads ≤ 1) × (r .answer .writes ≤ 2)
 accessed-few : (s : Shape) (t : Model) (i a : ℕ) (acc : Access) (m : Mode) → Few (accessed s t i a acc m)
 unfolding accessed
 accessed-few s t i a acc m =
-    (bit-le (fetches s t i a), bits-le (evicts s t i a) (accessRule s t i a m (effectAt acc (wordFound s t i a)) .stores))
+    let stores = accessRule s t i a m (effectAt acc (wordFound s t i a)) .stores in
+    (omega (arith, bit-le (fetches s t i a)), omega (arith, bit-le (evicts s t i a), bit-le stores))
 
 flushed-few : (s : Shape) (t : Model) (i a : ℕ) → Few (flushed s t i a)
 unfolding flushed
-flushed-few s t i a = by-cond Few (holds s t a i) _ _ (λ _. (omega arith, one-le (bit-le (flushRule (seen s t a i) .stores)))) (λ _. (omega arith, omega arith))
+flushed-few s t i a = by-cond Few (holds s t a i) _ _ (λ _. (omega arith, omega (arith, bit-le (flushRule (seen s t a i) .stores)))) (λ _. (omega arith, omega arith))
 
 perform-few : (s : Shape) (t : Model) (d : Decoded) → Few (perform s t d)
 unfolding perform

@@ -1,7 +1,5 @@
--- The proofs of the statements in specs/, from the finite facts about the rules up to the theorem over every list of orders.
-pub mod Fourteen
+-- The proofs of the statements in specs/: from numbers and one line, over the tables, to one order and every list of orders.
 pub mod Below
-pub mod Kept
 pub mod Line
 pub mod Entries
 pub mod Touched
@@ -9,7 +7,9 @@ pub mod Applied
 pub mod Lent
 pub mod Audited
 pub mod Decoded
+pub mod Moved
 pub mod Agree
 pub mod Theorem
-pub mod Claims
 pub mod Marks
+pub mod Claims
+pub mod Fourteen

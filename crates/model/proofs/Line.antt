@@ -10,17 +10,15 @@ use Rattle.protocol.specs.declared.state.Mode.{Mode}
 use Rattle.protocol.specs.declared.state.State.{State}
 use Rattle.protocol.specs.declared.state.State.the-variants.{I}
 use Rattle.protocol.specs.declared.access.Outcome.{Outcome}
-use Rattle.protocol.specs.declared.access.Outcome.the-variants.{Reads, Fails, Writes}
 use Rattle.protocol.specs.declared.rules.Rule.{Rule}
-use Rattle.protocol.specs.State.{valid, owner, isBack}
+use Rattle.protocol.specs.State.{valid, owner, isThrough}
 use Rattle.protocol.specs.Access.{writes}
 use Rattle.protocol.specs.Rules.{rule, snooped, updates}
 use Rattle.protocol.proofs.Bools.{Is, mp, imp, and-l, and-r, both, contra, by-bool, by-cond}
 use Rattle.protocol.proofs.States.{owner-valid}
 use Rattle.model.specs.Below.{anyBelow, lowest, atOr}
-use Rattle.model.specs.Flat.{markAfter}
-use Rattle.model.proofs.Below.{any-below, none-below, below-none, lowest-gives}
-use Rattle.model.proofs.Kept.{compatible, known, pairs-kept, informed-kept, clean-kept, unmarked-kept, snooped-together, snooped-valid, snooped-I, compatible-I, compatible-sym}
+use Rattle.model.proofs.Below.{any-below, below-none, lowest-gives}
+use Rattle.protocol.proofs.Kept.{compatible, known, pairs-kept, informed-kept, clean-kept, ownerless-kept, snooped-together, snooped-valid, snooped-I, compatible-I, compatible-sym}
 
 abbrev pub Unowned : ℕ → (ℕ → State) → Type 0
 Unowned n st = (p : ℕ) → p < n → Is (not (owner (st p)))
@@ -46,16 +44,6 @@ pub record After (n i : ℕ) (r : Rule) (w : ℕ) (st : ℕ → State) (wd : ℕ
   pub words : (q : ℕ) → q < n → q ≢ i → Is (valid (st′ q)) → wd′ q ≡ cond (updates (r .bus)) w (wd q)
   pub stored : Is (r .stores) → mem′ ≡ w
   pub unstored : Is (not (r .stores)) → mem′ ≡ mem
-
--- A mark is no less where the mark before is no less.
-not-and : (a b c : Bool) → (Is (not b) → Is (not c)) → Is (not (a && b)) → Is (not (a && c))
-not-and true b c f h = f h
-not-and false b c f h = refl
-
-mark-mono : (k : Outcome) (m : Mode) (old new : Bool) → (Is (not old) → Is (not new)) → Is (not (markAfter k m old)) → Is (not (markAfter k m new))
-mark-mono Writes m old new f h = h
-mark-mono Reads m old new f h = not-and (isBack m) old new f h
-mark-mono Fails m old new f h = not-and (isBack m) old new f h
 
 module _ (n i : ℕ) (st : ℕ → State) (wd : ℕ → ℕ) (mem w : ℕ) (inside : i < n) (good : Good n st wd mem w) where
   -- A port finds the line's word.
@@ -132,12 +120,11 @@ module _ (n i : ℕ) (st : ℕ → State) (wd : ℕ → ℕ) (mem w : ℕ) (insi
       pub access-good : (Is (not (writes k)) → w′ ≡ w) → Good n st′ wd′ mem′ w′
       access-good same = record { words = words-after same; pairs = pairs-after; clean = clean-after same }
 
-      pub access-unmarked : (old : Bool) → (Is (not old) → Unowned n st) → Is (not (markAfter k m old)) → Unowned n st′
-      access-unmarked old was mark p h =
-          let now : Is (not (markAfter k m (ownedBy st n))) = mark-mono k m old (ownedBy st n) (λ o. none-below (λ p. owner (st p)) n (was o)) mark in
+      pub access-ownerless : Is (isThrough m || not (writes k) && not (ownedBy st n)) → Unowned n st′
+      access-ownerless clear p h =
           elim (ℕ-discrete p i) [
-            | yes e ↦ rw (e, after .own) (and-l _ _ (mp (mp (unmarked-kept k m (sharedBy st i n) (ownedBy st n) (st i) I) knows-none) now))
-            | no d ↦ rw (after .others p h d) (and-r (not (owner (the-rule .own))) _ (mp (mp (unmarked-kept k m (sharedBy st i n) (ownedBy st n) (st i) (st p)) (knows p h d)) now))
+            | yes e ↦ rw (e, after .own) (and-l _ _ (mp (mp (ownerless-kept k m (sharedBy st i n) (ownedBy st n) (st i) I) knows-none) clear))
+            | no d ↦ rw (after .others p h d) (and-r (not (owner (the-rule .own))) _ (mp (mp (ownerless-kept k m (sharedBy st i n) (ownedBy st n) (st i) (st p)) (knows p h d)) clear))
           ]
 
 -- The line after port i gave it up: memory got the word if the port owned it.

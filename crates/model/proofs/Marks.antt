@@ -7,28 +7,26 @@ use mathlib.Core.Bool.{Bool, true, false, cond, _&&_, _||_, false≢true, true�
 use mathlib.Core.List.{List, [], _∷_}
 use native.Mathlib.Omega.{arith}
 use native.Mathlib.Decide.{ℕ-discrete}
-use lib.ListN.{getD, length, length-set}
-use lib.Seq.{getD-set-same, getD-set-other}
+use lib.ListN.{getD, length}
 use lib.Dec.{eqb}
 use borrow.Author.Tests.{eq-eqb, ne-eqb}
 use Rattle.protocol.specs.declared.state.Mode.{Mode}
 use Rattle.protocol.specs.declared.state.Mode.the-variants.{Through, Back}
 use Rattle.protocol.specs.declared.access.Access.{Access}
 use Rattle.protocol.specs.declared.access.Access.the-variants.{Read, Write, Swap}
-use Rattle.protocol.specs.declared.access.Outcome.{Outcome}
-use Rattle.protocol.specs.declared.access.Outcome.the-variants.{Reads, Fails, Writes}
-use Rattle.protocol.specs.declared.access.Effect.{Effect}
 use Rattle.protocol.specs.Bools.{bit}
-use Rattle.protocol.specs.Word.{merge, half}
-use Rattle.protocol.specs.Access.{effect, effectAt, writes}
-use Rattle.protocol.proofs.Bools.{Is, by-cond}
+use Rattle.protocol.specs.Word.{half}
+use Rattle.protocol.specs.Access.{effectAt, writes}
+use Rattle.protocol.proofs.Bools.{Is, by-bool}
+use Rattle.protocol.proofs.Effects.{read-effect, write-effect, swap-succeeds, swap-fails}
 use Rattle.model.specs.declared.shape.Shape.{Shape}
 use Rattle.model.specs.declared.order.Call.the-variants.{ByPort, Flush, DeviceRead}
 use Rattle.model.specs.declared.order.Decoded.{Decoded}
 use Rattle.model.specs.declared.order.Decoded.the-variants.{Asked, Refused}
 use Rattle.model.specs.Order.{Order, decode}
-use Rattle.model.specs.Flat.{Flat, wordIn, markIn, markAfter, flatPerform, flatStep}
+use Rattle.model.specs.Flat.{Flat, FlatResult, wordIn, markIn, flatAccess, flatPerform, flatStep}
 use Rattle.model.specs.Marks.{Event, writeBack, writeThrough, neither, isWrite, eventOf, eventsOf, flatRun, WrittenBack, startEvent, MarkSays}
+use Rattle.model.proofs.Moved.{Moved, access-moves}
 
 -- What an event does to a mark, and a list of events.
 abbrev moved : Event → Bool → Bool
@@ -40,48 +38,52 @@ fold : Bool → List Event → Bool
 fold old [] = old
 fold old (e ∷ es) = fold (moved e old) es
 
--- One order moves the mark by its event.
-through-clears : (k : Outcome) (old : Bool) → markAfter k Through old ≡ false
-through-clears Reads old = refl
-through-clears Fails old = refl
-through-clears Writes old = refl
+-- An access moves the mark by its event: in write through it clears it, and in write back it sets it if it writes.
+swapped-writes : (acc : Access) (w : ℕ) → writes (effectAt acc w .outcome) ≡ (isWrite acc || eqb (bit (effectAt acc w .swapped)) 1)
+swapped-writes Read w = rw (read-effect w)
+swapped-writes (Write mask x) w = rw (write-effect mask x w)
+swapped-writes (Swap mask compare x) w =
+    by-bool (eqb (half mask w) compare) (λ h. rw (swap-succeeds mask compare x w h)) (λ h. rw (swap-fails mask compare x w h))
 
-back-moves : (acc : Access) (w : ℕ) (old : Bool)
-    → markAfter (effectAt acc w .outcome) Back old ≡ moved (cond (isWrite acc || eqb (bit (effectAt acc w .swapped)) 1) writeBack neither) old
-unfolding effectAt
-back-moves Read w old = refl
-back-moves (Write mask x) w old = refl
-back-moves (Swap mask compare x) w old =
-    by-cond (λ (e : Effect). markAfter (e .outcome) Back old ≡ moved (cond (eqb (bit (e .swapped)) 1) writeBack neither) old) (eqb (half mask w) compare)
-    (effect Writes (merge mask w x) w true) (effect Fails w w false) (λ _. refl) (λ _. refl)
+set-or : (b old : Bool) → (b || old) ≡ moved (cond b writeBack neither) old
+set-or true old = refl
+set-or false old = refl
+
+access-event : (f : Flat) (acc : Access) (m : Mode) (i a : ℕ) (r : FlatResult) → Moved f r (effectAt acc (wordIn f a)) m a → a < length (f .marks)
+    → markIn (r .after) a ≡ moved (eventOf a (Asked (ByPort acc m i a)) (r .answer .swapped)) (markIn f a)
+unfolding eventOf
+access-event f acc Through i a r moves h = rw (eq-eqb a a refl) (moves .mark h)
+access-event f acc Back i a r moves h =
+    rw (eq-eqb a a refl, moves .answer, ← swapped-writes acc (wordIn f a)) (moves .mark h ∙ set-or (writes (effectAt acc (wordIn f a) .outcome)) (markIn f a))
+
+-- An access of another line is no event.
+other-event : (acc : Access) (m : Mode) (i a b n : ℕ) → b ≢ a → eventOf a (Asked (ByPort acc m i b)) n ≡ neither
+unfolding eventOf
+other-event acc Through i a b n d = rw (ne-eqb b a d)
+other-event acc Back i a b n d = rw (ne-eqb b a d)
+
+access-moved : (a : ℕ) (f : Flat) (acc : Access) (m : Mode) (i b : ℕ) → a < length (f .marks)
+    → markIn (flatAccess f acc m b .after) a ≡ moved (eventOf a (Asked (ByPort acc m i b)) (flatAccess f acc m b .answer .swapped)) (markIn f a)
+access-moved a f acc m i b h =
+    elim (ℕ-discrete b a) [
+      | yes e ↦ rw e (access-event f acc m i a (flatAccess f acc m a) (access-moves f m a acc) h)
+      | no d ↦ rw (other-event acc m i a b (flatAccess f acc m b .answer .swapped) d) (access-moves f m b acc .mark-other a (λ e. d (sym e)))
+    ]
 
 mark-moves : (a : ℕ) (f : Flat) (d : Decoded) → a < length (f .marks)
     → markIn (flatPerform f d .after) a ≡ moved (eventOf a d (flatPerform f d .answer .swapped)) (markIn f a)
 unfolding flatPerform eventOf
 mark-moves a f (Refused n) h = refl
-mark-moves a f (Asked (DeviceRead b)) h = refl
 mark-moves a f (Asked (Flush i b)) h = refl
-mark-moves a f (Asked (ByPort acc Through i b)) h =
-    let mark = markAfter (effectAt acc (wordIn f b) .outcome) Through (markIn f b) in
-    elim (ℕ-discrete b a) [
-      | yes e ↦ rw e (rw (eq-eqb a a refl, getD-set-same (f .marks) a (markAfter (effectAt acc (wordIn f a) .outcome) Through (markIn f a)) false h)
-          (through-clears (effectAt acc (wordIn f a) .outcome) (markIn f a)))
-      | no d ↦ rw (ne-eqb b a d) (getD-set-other (f .marks) b a mark false (λ e. d (sym e)))
-    ]
-mark-moves a f (Asked (ByPort acc Back i b)) h =
-    let mark = markAfter (effectAt acc (wordIn f b) .outcome) Back (markIn f b) in
-    elim (ℕ-discrete b a) [
-      | yes e ↦ rw e (rw (eq-eqb a a refl, getD-set-same (f .marks) a (markAfter (effectAt acc (wordIn f a) .outcome) Back (markIn f a)) false h)
-          (back-moves acc (wordIn f a) (markIn f a)))
-      | no d ↦ rw (ne-eqb b a d) (getD-set-other (f .marks) b a mark false (λ e. d (sym e)))
-    ]
+mark-moves a f (Asked (DeviceRead b)) h = refl
+mark-moves a f (Asked (ByPort acc m i b)) h = access-moved a f acc m i b h
 
 marks-length : (f : Flat) (d : Decoded) → length (flatPerform f d .after .marks) ≡ length (f .marks)
 unfolding flatPerform
 marks-length f (Refused n) = refl
-marks-length f (Asked (DeviceRead b)) = refl
 marks-length f (Asked (Flush i b)) = refl
-marks-length f (Asked (ByPort acc m i b)) = length-set (f .marks) b (markAfter (effectAt acc (wordIn f b) .outcome) m (markIn f b))
+marks-length f (Asked (DeviceRead b)) = refl
+marks-length f (Asked (ByPort acc m i b)) = access-moves f m b acc .marks-length
 
 -- A list of orders folds its events.
 mark-folds : (s : Shape) (a : ℕ) (os : List Order) (f : Flat) → a < length (f .marks)

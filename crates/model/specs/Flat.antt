@@ -1,15 +1,15 @@
 -- The flat memory (document 01's term): a word and a mark for each line. It is fed the shape and each order's word and operand, and
 -- never a table or an answer of the model.
 use Prim.Native.Nat.{ℕ}
-use mathlib.Core.Bool.{Bool, true, false, _&&_, not}
+use mathlib.Core.Bool.{Bool, true, false, cond, _&&_, not}
 use mathlib.Core.List.{List}
 use lib.ListN.{getD, set, length, replicate}
+use lib.Dec.{eqb}
 use Rattle.protocol.specs.declared.state.Mode.{Mode}
-use Rattle.protocol.specs.declared.access.Outcome.{Outcome}
-use Rattle.protocol.specs.declared.access.Outcome.the-variants.{Reads, Fails, Writes}
+use Rattle.protocol.specs.declared.access.Access.{Access}
+use Rattle.protocol.specs.declared.access.Access.the-variants.{Read, Write, Swap}
 use Rattle.protocol.specs.State.{isBack}
-use Rattle.protocol.specs.Access.{effectAt}
-use Rattle.protocol.specs.Bools.{bit}
+use Rattle.protocol.specs.Word.{merge, half}
 use Rattle.model.specs.declared.shape.Shape.{Shape}
 use Rattle.model.specs.declared.order.Call.{Call}
 use Rattle.model.specs.declared.order.Call.the-variants.{ByPort, Flush, DeviceRead}
@@ -45,18 +45,26 @@ flatAnswer n v s c = record { refusal = n; value = v; swapped = s; compared = c 
 abbrev pub flatResult : FlatAnswer → Flat → FlatResult
 flatResult x f = record { answer = x; after = f }
 
--- The mark after an access in mode m: a write, or a swap that succeeds, sets it to m; a read, or a swap that fails, clears it if m = 0.
-abbrev pub markAfter : Outcome → Mode → Bool → Bool
-markAfter Writes m old = isBack m
-markAfter Reads m old = isBack m && old
-markAfter Fails m old = isBack m && old
+-- A read of line a in mode m: m = 0 clears the mark.
+abbrev pub flatRead : Flat → Mode → ℕ → Flat
+flatRead f m a = record { words = f .words; marks = set (f .marks) a (isBack m && markIn f a) }
+
+-- A new word for line a in mode m: the mark becomes m.
+abbrev pub flatWrite : Flat → Mode → ℕ → ℕ → Flat
+flatWrite f m a w = record { words = set (f .words) a w; marks = set (f .marks) a (isBack m) }
+
+-- A swap compares with F[a]; success merges, and failure acts as a read.
+unfoldable pub flatAccess : Flat → Access → Mode → ℕ → FlatResult
+flatAccess f Read m a = flatResult (flatAnswer 0 (wordIn f a) 0 true) (flatRead f m a)
+flatAccess f (Write mask x) m a = flatResult (flatAnswer 0 0 0 true) (flatWrite f m a (merge mask (wordIn f a) x))
+flatAccess f (Swap mask compare x) m a =
+    cond (eqb (half mask (wordIn f a)) compare)
+    (flatResult (flatAnswer 0 (wordIn f a) 1 true) (flatWrite f m a (merge mask (wordIn f a) x)))
+    (flatResult (flatAnswer 0 (wordIn f a) 0 true) (flatRead f m a))
 
 unfoldable pub flatPerform : Flat → Decoded → FlatResult
 flatPerform f (Refused n) = flatResult (flatAnswer n 0 0 true) f
-flatPerform f (Asked (ByPort acc m i a)) =
-    let e = effectAt acc (wordIn f a) in
-    flatResult (flatAnswer 0 (e .value) (bit (e .swapped)) true)
-    (record { words = set (f .words) a (e .word); marks = set (f .marks) a (markAfter (e .outcome) m (markIn f a)) })
+flatPerform f (Asked (ByPort acc m i a)) = flatAccess f acc m a
 flatPerform f (Asked (Flush i a)) = flatResult (flatAnswer 0 0 0 true) f
 flatPerform f (Asked (DeviceRead a)) = flatResult (flatAnswer 0 (wordIn f a) 0 (not (markIn f a))) f
 

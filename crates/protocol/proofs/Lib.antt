@@ -3,4 +3,6 @@ pub mod Bools
 pub mod Finite
 pub mod States
 pub mod Merge
+pub mod Effects
 pub mod Rows
+pub mod Kept

@@ -1,20 +1,19 @@
 -- What the two rule tables keep, state by state: each fact is one test that is computed over all its cases. Assumes nothing.
 use mathlib.Core.Path.{_≡_, refl}
-use mathlib.Core.Bool.{Bool, true, false, _&&_, not}
+use mathlib.Core.Bool.{Bool, true, false, _&&_, _||_, not}
 use Rattle.protocol.specs.declared.state.Mode.{Mode}
 use Rattle.protocol.specs.declared.state.State.{State}
 use Rattle.protocol.specs.declared.state.State.the-variants.{I, S, E, O, M}
 use Rattle.protocol.specs.declared.access.Outcome.{Outcome}
 use Rattle.protocol.specs.declared.rules.Bus.{Bus}
 use Rattle.protocol.specs.declared.rules.Bus.the-variants.{Quiet, Share, Update, Invalidate, ShareOwned}
 use Rattle.protocol.specs.declared.rules.Rule.{Rule}
 use Rattle.protocol.specs.Bools.{implies}
-use Rattle.protocol.specs.State.{valid, owner, exclusive, isO, modeOf, sameMode}
+use Rattle.protocol.specs.State.{valid, owner, exclusive, isO, modeOf, sameMode, isThrough}
 use Rattle.protocol.specs.Access.{writes}
-use Rattle.protocol.specs.Rules.{rule, snooped, updates}
+use Rattle.protocol.specs.Rules.{rule, flushRule, snooped, updates}
 use Rattle.protocol.proofs.Bools.{Is}
 use Rattle.protocol.proofs.Finite.{forBools, forModes, forOutcomes, forStates, forBuses, at-bool, at-mode, at-outcome, at-state, at-bus}
-use Rattle.model.specs.Flat.{markAfter}
 
 -- Two ports may hold one line in these states: equal modes, neither E nor M, and one O at most. A port in I goes with any.
 abbrev pub compatible : State → State → Bool
@@ -74,13 +73,13 @@ pub clean-kept : Kept clean
 unfolding rule snooped everywhere
 clean-kept = kept clean refl
 
--- Under mark 0 there is no owner.
-abbrev pub unmarked : Test
-unmarked k m dirty r s t u = implies (not (markAfter k m dirty)) (not (owner (r .own)) && not (owner u))
+-- After an access in write through, and after a read of a line that has no owner, there is no owner.
+abbrev pub ownerless : Test
+ownerless k m dirty r s t u = implies (isThrough m || not (writes k) && not dirty) (not (owner (r .own)) && not (owner u))
 
-pub unmarked-kept : Kept unmarked
+pub ownerless-kept : Kept ownerless
 unfolding rule snooped everywhere
-unmarked-kept = kept unmarked refl
+ownerless-kept = kept ownerless refl
 
 -- Two that are compatible are so after the same command.
 abbrev together : Bus → State → State → Bool
@@ -110,3 +109,25 @@ compatible-I s = at-state (λ s. compatible s I) refl s
 pub compatible-sym : (s t : State) → Is (implies (compatible s t) (compatible t s))
 compatible-sym s t =
     at-state (λ t. implies (compatible s t) (compatible t s)) (at-state (λ s. forStates (λ t. implies (compatible s t) (compatible t s))) refl s) t
+
+-- A flush gives the line up, says nothing to others, and stores an owner's word.
+pub flush-own : (s : State) → flushRule s .own ≡ I
+unfolding flushRule
+flush-own s = refl
+
+pub flush-bus : (s : State) → flushRule s .bus ≡ Quiet
+unfolding flushRule
+flush-bus s = refl
+
+pub flush-stores : (s : State) → flushRule s .stores ≡ owner s
+unfolding flushRule
+flush-stores s = refl
+
+-- A quiet bus changes no holder and hands no word on.
+pub quiet-same : (t : State) → snooped Quiet t ≡ t
+unfolding snooped
+quiet-same t = refl
+
+pub quiet-keeps : updates Quiet ≡ false
+unfolding updates
+quiet-keeps = refl
