@@ -15,7 +15,7 @@ use Rattle.protocol.proofs.States.{owner-valid, not-valid}
 use Rattle.model.specs.declared.shape.Shape.{Shape}
 use Rattle.model.specs.Shape.{indexOf, tagOf, entryOf}
 use Rattle.model.specs.Tables.{Model, stateAt, seen, wordAt, memoryAt, holds, owns}
-use Rattle.model.specs.Step.{store, victim, evicts, byteAfter, wordAfter, applied}
+use Rattle.model.specs.Step.{store, victim, evictsOwner, byteAfter, wordAfter, applied}
 use Rattle.protocol.proofs.Kept.{snooped-I, snooped-valid}
 use Rattle.model.proofs.Line.{After}
 use Rattle.model.proofs.Entries.{Sized, putBelow-length, putBelow-other, putBelow-same, entry-lt, entry-index, entry-inj, same-line, home-index, home-tag, seen-tag, seen-here, same-entry, same-at, holds-one}
@@ -88,20 +88,20 @@ module _ (s : Shape) (t : Model) (i a : ℕ) (ready : Ready s t a) (port : i < s
       word-at p h ∙ rw (ne-eqb p i d, was)
 
   -- An entry that is taken is evicted exactly if it is an owner's.
-  evicts-miss : Is (evicts s t i a) → Is (not (holds s t a i))
-  unfolding evicts
+  evicts-miss : Is (evictsOwner s t i a) → Is (not (holds s t a i))
+  unfolding evictsOwner
   evicts-miss ev = search (and-l, and-r)
 
-  evicts-owner : Is (evicts s t i a) → Is (owner (stateAt t (entryOf s a i)))
-  unfolding evicts
+  evicts-owner : Is (evictsOwner s t i a) → Is (owner (stateAt t (entryOf s a i)))
+  unfolding evictsOwner
   evicts-owner ev = search (and-l, and-r)
 
-  owner-evicts : Is (not (holds s t a i)) → Is (owner (stateAt t (entryOf s a i))) → Is (evicts s t i a)
-  unfolding evicts
+  owner-evicts : Is (not (holds s t a i)) → Is (owner (stateAt t (entryOf s a i))) → Is (evictsOwner s t i a)
+  unfolding evictsOwner
   owner-evicts n o = both n o
 
   -- What is evicted is another line's word.
-  victim-other : Is (evicts s t i a) → a ≢ victim s t i a
+  victim-other : Is (evictsOwner s t i a) → a ≢ victim s t i a
   victim-other ev e =
       not-both {a = holds s t a i}
       (rw (seen-here s t a i (sym (home-tag s pos t a i) ∙ sym (ap (λ x. x / s .sets) e))) (owner-valid (stateAt t (entryOf s a i)) (evicts-owner ev)))
@@ -109,16 +109,16 @@ module _ (s : Shape) (t : Model) (i a : ℕ) (ready : Ready s t a) (port : i < s
 
   -- Memory after the evicted word was stored, and before the line's word is.
   abbrev written : List ℕ
-  written = store (evicts s t i a) (victim s t i a) (wordAt s t a i) (t .memory)
+  written = store (evictsOwner s t i a) (victim s t i a) (wordAt s t a i) (t .memory)
 
   memory-stored : Is (r .stores) → memoryAt now a ≡ w
   unfolding applied
-  memory-stored h = store-hit (r .stores) a w written a h refl (rw (store-length (evicts s t i a) (victim s t i a) (wordAt s t a i) (t .memory), sized .memory) (ready .line))
+  memory-stored h = store-hit (r .stores) a w written a h refl (rw (store-length (evictsOwner s t i a) (victim s t i a) (wordAt s t a i) (t .memory), sized .memory) (ready .line))
 
   memory-unstored : Is (not (r .stores)) → memoryAt now a ≡ memoryAt t a
   unfolding applied
   memory-unstored h =
-      store-miss (r .stores) a w written a (λ x. absurd (not-both x h)) ∙ store-miss (evicts s t i a) (victim s t i a) (wordAt s t a i) (t .memory) a victim-other
+      store-miss (r .stores) a w written a (λ x. absurd (not-both x h)) ∙ store-miss (evictsOwner s t i a) (victim s t i a) (wordAt s t a i) (t .memory) a victim-other
 
   -- Another line: its word is stored if it is the victim, and memory keeps it otherwise.
   module _ (b : ℕ) (other : b ≢ a) where
@@ -128,7 +128,7 @@ module _ (s : Shape) (t : Model) (i a : ℕ) (ready : Ready s t a) (port : i < s
 
     memory-far : indexOf s b ≢ indexOf s a → memoryAt now b ≡ memoryAt t b
     memory-far d =
-        memory-other ∙ store-miss (evicts s t i a) (victim s t i a) (wordAt s t a i) (t .memory) b (λ _ e. d (ap (λ x. x % s .sets) e ∙ home-index s pos t a i))
+        memory-other ∙ store-miss (evictsOwner s t i a) (victim s t i a) (wordAt s t a i) (t .memory) b (λ _ e. d (ap (λ x. x % s .sets) e ∙ home-index s pos t a i))
 
     -- The port's entry at the index is of line b.
     state-there : indexOf s b ≡ indexOf s a → getD (t .tags) (entryOf s a i) 0 ≡ tagOf s b → seen s t b i ≡ stateAt t (entryOf s a i)
@@ -140,7 +140,7 @@ module _ (s : Shape) (t : Model) (i a : ℕ) (ready : Ready s t a) (port : i < s
         let v : Is (holds s t b i) = owner-valid (seen s t b i) o in
         let tag : getD (t .tags) (entryOf s a i) 0 ≡ tagOf s b = sym (same-at s pos a b other near i (t .tags)) ∙ seen-tag s t b i v in
         memory-other ∙
-        store-hit (evicts s t i a) (victim s t i a) (wordAt s t a i) (t .memory) b
+        store-hit (evictsOwner s t i a) (victim s t i a) (wordAt s t a i) (t .memory) b
         (owner-evicts (holds-one s pos a b other near t i v) (rw (state-there near tag) at o))
         (same-line s pos b (victim s t i a) (sym tag ∙ sym (home-tag s pos t a i)) (near ∙ sym (home-index s pos t a i)))
         (rw (sized .memory) line)
@@ -149,7 +149,7 @@ module _ (s : Shape) (t : Model) (i a : ℕ) (ready : Ready s t a) (port : i < s
     memory-left : Is (not (owns s t b i)) → memoryAt now b ≡ memoryAt t b
     memory-left o =
         memory-other ∙
-        store-miss (evicts s t i a) (victim s t i a) (wordAt s t a i) (t .memory) b
+        store-miss (evictsOwner s t i a) (victim s t i a) (wordAt s t a i) (t .memory) b
         (λ ev e.
         let near : indexOf s b ≡ indexOf s a = ap (λ x. x % s .sets) e ∙ home-index s pos t a i in
         let tag : getD (t .tags) (entryOf s a i) 0 ≡ tagOf s b = sym (home-tag s pos t a i) ∙ sym (ap (λ x. x / s .sets) e) in
@@ -158,7 +158,7 @@ module _ (s : Shape) (t : Model) (i a : ℕ) (ready : Ready s t a) (port : i < s
   sized-after : Sized s now
   unfolding applied
   sized-after = record {
-    memory = store-length (r .stores) a w written ∙ store-length (evicts s t i a) (victim s t i a) (wordAt s t a i) (t .memory) ∙ sized .memory;
+    memory = store-length (r .stores) a w written ∙ store-length (evictsOwner s t i a) (victim s t i a) (wordAt s t a i) (t .memory) ∙ sized .memory;
     tags = length-set (t .tags) (entryOf s a i) _ ∙ sized .tags;
     states = putBelow-length (entryOf s a) (byteAfter s t i a r) (s .ports) (t .states) ∙ sized .states;
     words = putBelow-length (entryOf s a) (wordAfter s t i a r w) (s .ports) (t .words) ∙ sized .words;

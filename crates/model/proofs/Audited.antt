@@ -18,7 +18,7 @@ use Rattle.model.specs.declared.shape.Shape.{Shape}
 use Rattle.model.specs.Shape.{entries}
 use Rattle.model.specs.Below.{allBelow}
 use Rattle.model.specs.Tables.{Model, lentRefusal, sound, seen, wordAt, memoryAt, holds, owns, dirty}
-use Rattle.model.specs.Audit.{entriesSound, everyTwo, bothHold, equalWords, equalModes, exclusiveAlone, oneO, cleanEqual, lineSound, coherent, audit, Coherent}
+use Rattle.model.specs.Audit.{entriesSound, everyTwo, bothHold, equalWords, equalModes, exclusiveAlone, oneO, cleanEqual, linePasses, tablesPass, audit, Coherent}
 use Rattle.model.specs.Agreement.{lineWord}
 use Rattle.model.proofs.Below.{all-below, below-all, none-below, below-none, lowest-gives}
 use Rattle.protocol.proofs.Kept.{compatible}
@@ -55,13 +55,13 @@ module _ (s : Shape) (t : Model) (a : ℕ) where
   abbrev pairTest : ℕ → ℕ → Bool
   pairTest p q = equalWords s t a p q && equalModes s t a p q && exclusiveAlone s t a p q && oneO s t a p q
 
-  module _ (passes : Is (lineSound s t a)) where
+  module _ (passes : Is (linePasses s t a)) where
     pair-passes : (p q : ℕ) → p < s .ports → q < s .ports → Is (pairTest p q)
-    unfolding lineSound
+    unfolding linePasses
     pair-passes = two-all (s .ports) pairTest (and-l _ (allBelow (cleanEqual s t a) (s .ports)) passes)
 
     clean-passes : (p : ℕ) → p < s .ports → Is (cleanEqual s t a p)
-    unfolding lineSound
+    unfolding linePasses
     clean-passes = below-all (cleanEqual s t a) (s .ports) (and-r (everyTwo (s .ports) pairTest) _ passes)
 
     words-passes : (p q : ℕ) → p < s .ports → q < s .ports → Is (equalWords s t a p q)
@@ -84,20 +84,20 @@ module _ (s : Shape) (t : Model) (a : ℕ) where
     oneO-passes : (p q : ℕ) → p < s .ports → q < s .ports → Is (oneO s t a p q)
     oneO-passes p q hp hq = and-r (equalWords s t a p q && equalModes s t a p q && exclusiveAlone s t a p q) _ (pair-passes p q hp hq)
 
-audit-accepts : (s : Shape) (t : Model) → Is (audit s t) → (lentRefusal s t ≡ 0) × Is (coherent s t)
+audit-accepts : (s : Shape) (t : Model) → Is (audit s t) → (lentRefusal s t ≡ 0) × Is (tablesPass s t)
 unfolding audit
 audit-accepts s t =
-    by-cond (λ b. Is b → (lentRefusal s t ≡ 0) × Is (coherent s t)) (eqb (lentRefusal s t) 0) (coherent s t) false
+    by-cond (λ b. Is b → (lentRefusal s t ≡ 0) × Is (tablesPass s t)) (eqb (lentRefusal s t) 0) (tablesPass s t) false
     (λ e h. (eqb-true _ _ e, h)) (λ _ h. absurd (false≢true h))
 
 pub audit-facts : (s : Shape) (t : Model) → Is (audit s t) → Coherent s t
-unfolding coherent entriesSound dirty
+unfolding tablesPass entriesSound dirty
 audit-facts s t h =
     let ok = audit-accepts s t h in
-    let line : (a : ℕ) → a < s .lines → Is (lineSound s t a) = below-all (lineSound s t) (s .lines) (and-r (allBelow (sound s t) (entries s)) (allBelow (lineSound s t) (s .lines)) (ok .1)) in
+    let line : (a : ℕ) → a < s .lines → Is (linePasses s t a) = below-all (linePasses s t) (s .lines) (and-r (allBelow (sound s t) (entries s)) (allBelow (linePasses s t) (s .lines)) (ok .1)) in
     record {
       accepted = ok .0;
-      entry = below-all (sound s t) (entries s) (and-l _ (allBelow (lineSound s t) (s .lines)) (ok .1));
+      entry = below-all (sound s t) (entries s) (and-l _ (allBelow (linePasses s t) (s .lines)) (ok .1));
       words = λ a p q l hp hq vp vq. eqb-true _ _ (mp (words-passes s t a (line a l) p q hp hq) (both vp vq));
       modes = λ a p q l hp hq vp vq. same-mode _ _ (mp (modes-passes s t a (line a l) p q hp hq) (both vp vq));
       alone = λ a p q l hp hq x vq. eqb-true _ _ (mp (alone-passes s t a (line a l) p q hp hq) (both x vq));
@@ -123,11 +123,11 @@ module _ (s : Shape) (t : Model) (facts : Coherent s t) where
       (λ q hq. not-true _ (below-none (owns s t a) (s .ports) (and-r (holds s t a p) (not (dirty s t a)) v) q hq))))
 
   pub facts-audit : Is (audit s t)
-  unfolding audit coherent entriesSound lineSound
+  unfolding audit tablesPass entriesSound linePasses
   facts-audit =
       rw (facts .accepted)
       (both (all-below (sound s t) (entries s) (facts .entry))
-      (all-below (lineSound s t) (s .lines) (λ a l.
+      (all-below (linePasses s t) (s .lines) (λ a l.
       both (all-two (s .ports) (pairTest s t a) (pair-holds a l)) (all-below (cleanEqual s t a) (s .ports) (clean-holds a l)))))
 
 -- The facts say that each line is good at its word.

@@ -17,7 +17,7 @@ use Rattle.model.specs.declared.order.Decoded.{Decoded}
 use Rattle.model.specs.declared.order.Decoded.the-variants.{Asked, Refused}
 use Rattle.model.specs.Order.{decode}
 use Rattle.model.specs.Tables.{Model, lentRefusal, columnSound, seen, holds}
-use Rattle.model.specs.Step.{Result, refuse, wordFound, fetches, evicts, accessRule, accessed, flushed, perform, step}
+use Rattle.model.specs.Step.{Result, refuse, wordFound, fetches, evictsOwner, accessRule, accessed, flushed, perform, step}
 use Rattle.model.specs.Claims.{FewAccesses, RefusedChangesNothing, AuditSays}
 use Rattle.model.proofs.Audited.{audit-facts, facts-audit}
 
@@ -33,7 +33,7 @@ accessed-few : (s : Shape) (t : Model) (i a : ℕ) (acc : Access) (m : Mode) →
 unfolding accessed
 accessed-few s t i a acc m =
     let stores = accessRule s t i a m (effectAt acc (wordFound s t i a)) .stores in
-    (omega (arith, bit-le (fetches s t i a)), omega (arith, bit-le (evicts s t i a), bit-le stores))
+    (omega (arith, bit-le (fetches s t i a)), omega (arith, bit-le (evictsOwner s t i a), bit-le stores))
 
 flushed-few : (s : Shape) (t : Model) (i a : ℕ) → Few (flushed s t i a)
 unfolding flushed

@@ -11,5 +11,6 @@ pub mod Moved
 pub mod Agree
 pub mod Theorem
 pub mod Marks
+pub mod Device
 pub mod Claims
 pub mod Fourteen

@@ -47,8 +47,8 @@ audited-sim s t f passes fits =
       range = lent .range;
       sized = lent .sizes;
       tidy = facts-tidy s t facts;
-      flat-words = fits .words;
-      flat-marks = fits .marks;
+      flat-words = fits .words-length;
+      flat-marks = fits .marks-length;
       good = λ a l. rw (fits .word a l) (facts-good s t facts a l);
       unmarked = λ a l u p h. contra (owns s t a p) (λ o. fits .mark a l (any-below (owns s t a) (s .ports) p h o)) u;
     }
@@ -86,6 +86,9 @@ zeroed-sim s t lent = record {
   unmarked = λ a h u p k. rw (zeroed-seen s t a p) refl;
 }
 
-pub agreement : Agreement
+pub fresh-sim : (s : Shape) (t : Model) → lentRefusal s t ≡ 0 → Sim s (fresh s t) (flatStart (t .memory))
 unfolding fresh
-agreement s t accepted os = rw accepted (sim-agrees s os (zeroed s t) (flatStart (t .memory)) (zeroed-sim s t (lent-facts s t accepted)))
+fresh-sim s t accepted = rw accepted (zeroed-sim s t (lent-facts s t accepted))
+
+pub agreement : Agreement
+agreement s t accepted os = sim-agrees s os (fresh s t) (flatStart (t .memory)) (fresh-sim s t accepted)

@@ -1,7 +1,8 @@
--- The agreement of the model with the flat memory: demand 3's theorem, as a statement. Its proof is `agreement` in proofs/Theorem.antt.
+-- The agreement of the model with the flat memory, as a statement: the one theorem over every list of orders. Its proof is `agreement` in
+-- proofs/Theorem.antt.
 use Prim.Native.Nat.{ℕ, _<_}
 use mathlib.Core.Path.{_≡_}
-use mathlib.Core.Bool.{Bool, true, false}
+use mathlib.Core.Bool.{true}
 use mathlib.Core.List.{List, [], _∷_}
 use lib.ListN.{length}
 use Rattle.model.specs.declared.shape.Shape.{Shape}
@@ -15,7 +16,7 @@ use Rattle.model.specs.Audit.{audit}
 use Rattle.model.specs.Flat.{Flat, FlatAnswer, wordIn, markIn, flatStep, flatStart}
 
 -- The model's answer to an order is the flat memory's: refusal, value and swapped. A device read's value counts under mark 0 only. And
--- refusal 8 is not given.
+-- the refusal is below 8: no entry is found unsound.
 pub record Agrees (x : Answer) (y : FlatAnswer) : Type 0 where
   pub refusal : x .refusal ≡ y .refusal
   pub value : y .compared ≡ true → x .value ≡ y .value
@@ -29,7 +30,7 @@ AgreesOver s [] t f = audit s t ≡ true
 AgreesOver s (o ∷ os) t f =
     (audit s t ≡ true) × Agrees (step s o t .answer) (flatStep s o f .answer) × AgreesOver s os (step s o t .after) (flatStep s o f .after)
 
--- Demand 3: whatever shape and tables are lent, if fresh does not refuse them, then every list of orders from there agrees.
+-- Whatever shape and tables are lent, if fresh does not refuse them, then every list of orders from there agrees.
 abbrev pub Agreement : Type 0
 Agreement = (s : Shape) (t : Model) → lentRefusal s t ≡ 0 → (os : List Order) → AgreesOver s os (fresh s t) (flatStart (t .memory))
 
@@ -39,8 +40,8 @@ lineWord s t a = atOr (wordAt s t a) (memoryAt t a) (lowest (holds s t a) (s .po
 
 -- A flat memory that fits the tables: it has each line's word, and mark 1 at least where there is an owner.
 pub record Fits (s : Shape) (t : Model) (f : Flat) : Type 0 where
-  pub words : length (f .words) ≡ s .lines
-  pub marks : length (f .marks) ≡ s .lines
+  pub words-length : length (f .words) ≡ s .lines
+  pub marks-length : length (f .marks) ≡ s .lines
   pub word : (a : ℕ) → a < s .lines → wordIn f a ≡ lineWord s t a
   pub mark : (a : ℕ) → a < s .lines → dirty s t a ≡ true → markIn f a ≡ true
 

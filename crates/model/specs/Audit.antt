@@ -41,18 +41,19 @@ module _ (s : Shape) (t : Model) (a : ℕ) where
   abbrev pub cleanEqual : ℕ → Bool
   cleanEqual p = implies (holds s t a p && not (dirty s t a)) (eqb (wordAt s t a p) (memoryAt t a))
 
-  unfoldable pub lineSound : Bool
-  lineSound = everyTwo (s .ports) (λ p q. equalWords p q && equalModes p q && exclusiveAlone p q && oneO p q) && allBelow cleanEqual (s .ports)
+  -- All that the audit says of line a.
+  unfoldable pub linePasses : Bool
+  linePasses = everyTwo (s .ports) (λ p q. equalWords p q && equalModes p q && exclusiveAlone p q && oneO p q) && allBelow cleanEqual (s .ports)
 
 -- The audit of tables that the shape fits.
-unfoldable pub coherent : Shape → Model → Bool
-coherent s t = entriesSound s t && allBelow (lineSound s t) (s .lines)
+unfoldable pub tablesPass : Shape → Model → Bool
+tablesPass s t = entriesSound s t && allBelow (linePasses s t) (s .lines)
 
--- The audit answers refusal 2 or 3, else 0; a refused audit says no.
+-- The audit's yes or no. Its refusal is `lentRefusal`; a refused audit says no.
 unfoldable pub audit : Shape → Model → Bool
-audit s t = cond (eqb (lentRefusal s t) 0) (coherent s t) false
+audit s t = cond (eqb (lentRefusal s t) 0) (tablesPass s t) false
 
--- The same as plain facts: of each line a, at any ports p and q.
+-- A yes of the audit as plain facts: of each entry k, and of each line a at any ports p and q.
 pub record Coherent (s : Shape) (t : Model) : Type 0 where
   pub accepted : lentRefusal s t ≡ 0
   pub entry : (k : ℕ) → k < entries s → sound s t k ≡ true

@@ -1,6 +1,6 @@
 -- Where a line's word stands, and what the view shows of it.
 use Prim.Native.Nat.{ℕ}
-use mathlib.Core.Bool.{cond, _&&_}
+use mathlib.Core.Bool.{cond}
 use mathlib.Core.List.{List, [], _∷_}
 use lib.Dec.{eqb, leb}
 use Rattle.model.specs.declared.shape.Shape.{Shape}

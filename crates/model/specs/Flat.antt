@@ -1,4 +1,4 @@
--- The flat memory (document 01's term): a word and a mark for each line. It is fed the shape and each order's word and operand, and
+-- The flat memory (document 01's term): the shape, and a word and a mark for each line. It is fed each order's word and operand, and
 -- never a table or an answer of the model.
 use Prim.Native.Nat.{ℕ}
 use mathlib.Core.Bool.{Bool, true, false, cond, _&&_, not}
@@ -11,7 +11,6 @@ use Rattle.protocol.specs.declared.access.Access.the-variants.{Read, Write, Swa
 use Rattle.protocol.specs.State.{isBack}
 use Rattle.protocol.specs.Word.{merge, half}
 use Rattle.model.specs.declared.shape.Shape.{Shape}
-use Rattle.model.specs.declared.order.Call.{Call}
 use Rattle.model.specs.declared.order.Call.the-variants.{ByPort, Flush, DeviceRead}
 use Rattle.model.specs.declared.order.Decoded.{Decoded}
 use Rattle.model.specs.declared.order.Decoded.the-variants.{Asked, Refused}

@@ -1,16 +1,17 @@
--- Document 01's fourteen orders, as one table: the order, the five numbers, then the two state bytes and the two memory words afterwards.
+-- Document 01's fourteen orders, as one table: the order, the five numbers, then the bytes of the states in which ports 0 and 1 see the
+-- order's line, and the two memory words.
 -- The proof is `fourteen-hold` in proofs/Fourteen.antt.
 use Prim.Native.Nat.{ℕ, _+_, _*_, _^_}
 use mathlib.Core.Path.{_≡_}
 use mathlib.Core.List.{List, [], _∷_}
-use lib.ListN.{getD}
 use Rattle.protocol.specs.declared.state.Mode.{Mode}
 use Rattle.protocol.specs.declared.state.Mode.the-variants.{Through, Back}
+use Rattle.protocol.specs.State.{code}
 use Rattle.protocol.specs.Coded.{modeNumber}
 use Rattle.model.specs.declared.shape.Shape.{Shape}
 use Rattle.model.specs.declared.step.Answer.{Answer}
-use Rattle.model.specs.Order.{Order}
-use Rattle.model.specs.Tables.{Model, model}
+use Rattle.model.specs.Order.{Order, bits}
+use Rattle.model.specs.Tables.{Model, model, seen, memoryAt}
 use Rattle.model.specs.Step.{step}
 use Rattle.model.specs.Fresh.{fresh}
 
@@ -60,12 +61,12 @@ table =
     row (deviceRead 0) (answer 0 9 0 1 0) 1 1 9 7 ∷
     row (swap 0 0 Back 0x0F 9 4) (answer 0 9 1 0 0) 11 9 9 7 ∷
     row (swap 1 0 Back 0x0F 9 0) (answer 0 4 0 0 0) 11 9 9 7 ∷
-    row (write 0 1 Through 0x01 0x1FF) (answer 0 0 0 1 2) 2 9 4 255 ∷
-    row (flush 1 1) (answer 0 0 0 0 0) 2 9 4 255 ∷
+    row (write 0 1 Through 0x01 0x1FF) (answer 0 0 0 1 2) 2 0 4 255 ∷
+    row (flush 1 1) (answer 0 0 0 0 0) 2 0 4 255 ∷
     row (swap 1 1 Back 0xF0 1 0) (answer 0 255 0 1 0) 0 10 4 255 ∷
     row (write 1 1 Back 0 0) (answer 0 0 0 0 0) 0 12 4 255 ∷
     row (swap 0 1 Through 0xF0 1 0) (answer 0 255 0 0 1) 2 0 4 255 ∷
-    row (read 2 0 Through) (answer 5 0 0 0 0) 2 0 4 255 ∷
+    row (read 2 0 Through) (answer 5 0 0 0 0) 0 0 4 255 ∷
     []
 
 -- Two ports, one set, two lines, memory 5 and 7, and what fresh leaves of any tables.
@@ -81,7 +82,8 @@ played [] t = []
 played (r ∷ rs) t =
     let x = step twoPorts (r .order) t in
     let u = x .after in
-    row (r .order) (x .answer) (getD (u .states) 0 0) (getD (u .states) 1 0) (getD (u .memory) 0 0) (getD (u .memory) 1 0) ∷ played rs u
+    let a = bits (r .order .word) 16 16 in
+    row (r .order) (x .answer) (code (seen twoPorts u a 0)) (code (seen twoPorts u a 1)) (memoryAt u 0) (memoryAt u 1) ∷ played rs u
 
 abbrev pub FourteenHold : Type 0
 FourteenHold = played table start ≡ table

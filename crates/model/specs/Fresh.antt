@@ -1,5 +1,4 @@
 -- A fresh model.
-use Prim.Native.Nat.{ℕ}
 use mathlib.Core.Bool.{cond}
 use lib.ListN.{replicate}
 use lib.Dec.{eqb}
@@ -11,6 +10,6 @@ use Rattle.model.specs.Tables.{Model, model, lentRefusal}
 unfoldable pub zeroed : Shape → Model → Model
 zeroed s t = model (t .memory) (replicate (entries s) 0) (replicate (entries s) 0) (replicate (entries s) 0)
 
--- Making a fresh model answers refusal 2 or 3, and then changes nothing, or 0.
+-- What making a fresh model leaves. Its answer is `lentRefusal`; where that is 2 or 3, nothing changes.
 unfoldable pub fresh : Shape → Model → Model
 fresh s t = cond (eqb (lentRefusal s t) 0) (zeroed s t) t

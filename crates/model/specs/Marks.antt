@@ -1,4 +1,5 @@
--- What the flat memory's mark of a line says of the orders so far. The proof is `mark-says` in proofs/Marks.antt.
+-- What the flat memory's mark of a line says of the orders so far, and what a device then reads. The proofs are `mark-says` in
+-- proofs/Marks.antt and `device-guarantee` in proofs/Device.antt.
 use Prim.Native.Nat.{ℕ, _<_}
 use mathlib.Core.Path.{_≡_}
 use mathlib.Core.Logic.{_≢_, _↔_}
@@ -14,12 +15,15 @@ use Rattle.model.specs.declared.order.Call.the-variants.{ByPort, Flush, 
 use Rattle.model.specs.declared.order.Decoded.{Decoded}
 use Rattle.model.specs.declared.order.Decoded.the-variants.{Asked, Refused}
 use Rattle.model.specs.Order.{Order, decode}
-use Rattle.model.specs.Flat.{Flat, markIn, flatStep}
+use Rattle.model.specs.Tables.{Model, lentRefusal, memoryAt}
+use Rattle.model.specs.Step.{step}
+use Rattle.model.specs.Fresh.{fresh}
+use Rattle.model.specs.Flat.{Flat, wordIn, markIn, flatStep, flatStart}
 
--- What an order is to a line: an accepted write-back write or successful write-back swap of it; an accepted write-through read, write
--- or compare-and-swap of it; or neither.
+-- What an order is to a line: `dirties`, an accepted write-back write or successful write-back swap of it; `cleans`, an accepted
+-- write-through read, write or compare-and-swap of it; or neither.
 pub data Event : Type 0 where
-  writeBack writeThrough neither : Event
+  dirties cleans neither : Event
 
 abbrev pub isWrite : Access → Bool
 isWrite Read = false
@@ -29,8 +33,8 @@ isWrite (Swap mask compare x) = false
 -- Of an order that was taken apart, and whose swapped number is n.
 unfoldable pub eventOf : ℕ → Decoded → ℕ → Event
 eventOf a (Refused k) n = neither
-eventOf a (Asked (ByPort acc Through i b)) n = cond (eqb b a) writeThrough neither
-eventOf a (Asked (ByPort acc Back i b)) n = cond (eqb b a && (isWrite acc || eqb n 1)) writeBack neither
+eventOf a (Asked (ByPort acc Through i b)) n = cond (eqb b a) cleans neither
+eventOf a (Asked (ByPort acc Back i b)) n = cond (eqb b a && (isWrite acc || eqb n 1)) dirties neither
 eventOf a (Asked (Flush i b)) n = neither
 eventOf a (Asked (DeviceRead b)) n = neither
 
@@ -43,17 +47,30 @@ unfoldable pub flatRun : Shape → List Order → Flat → Flat
 flatRun s [] f = f
 flatRun s (o ∷ os) f = flatRun s os (flatStep s o f .after)
 
--- Event number n is a write-back write, and none after it is write through.
-abbrev pub WrittenBack : List Event → Type 0
-WrittenBack es = (n : ℕ) × (getD es n neither ≡ writeBack) × ((k : ℕ) → n < k → getD es k neither ≢ writeThrough)
+-- Some event dirties the line, and none after it cleans it. (Events are counted from 0; below, number 0 is the start.)
+abbrev pub DirtySince : List Event → Type 0
+DirtySince es = (n : ℕ) × (getD es n neither ≡ dirties) × ((k : ℕ) → n < k → getD es k neither ≢ cleans)
 
--- A mark of 1 at the start counts as a write-back write before all orders.
+-- A mark of 1 at the start counts as an event that dirties the line before all orders.
 abbrev pub startEvent : Bool → Event
-startEvent true = writeBack
+startEvent true = dirties
 startEvent false = neither
 
--- The mark of a line is 0 exactly when no event wrote it back since the last write-through event, or, if there was none, since the start.
+-- The mark of a line is 0 exactly when no event dirtied it since the last that cleaned it, or, if there was none, since the start.
 abbrev pub MarkSays : Type 0
 MarkSays =
     (s : Shape) (a : ℕ) (os : List Order) (f : Flat) → a < length (f .marks)
-    → (markIn (flatRun s os f) a ≡ false) ↔ (WrittenBack (startEvent (markIn f a) ∷ eventsOf s a os f) → ⊥)
+    → (markIn (flatRun s os f) a ≡ false) ↔ (DirtySince (startEvent (markIn f a) ∷ eventsOf s a os f) → ⊥)
+
+-- The model after a list of orders.
+unfoldable pub modelRun : Shape → List Order → Model → Model
+modelRun s [] t = t
+modelRun s (o ∷ os) t = modelRun s os (step s o t .after)
+
+-- The device guarantee in one sentence: after any list of orders from a fresh model, main memory has the flat word of every line that no
+-- order dirtied since the last that cleaned it.
+abbrev pub DeviceGuarantee : Type 0
+DeviceGuarantee =
+    (s : Shape) (t : Model) → lentRefusal s t ≡ 0 → (os : List Order) (a : ℕ) → a < s .lines
+    → (DirtySince (eventsOf s a os (flatStart (t .memory))) → ⊥)
+    → memoryAt (modelRun s os (fresh s t)) a ≡ wordIn (flatRun s os (flatStart (t .memory))) a

@@ -36,7 +36,8 @@ checked s kind port mask line call =
     (cond (eqb kind 2 && not (eqb mask 0x0F || eqb mask 0xF0)) (Refused 7)
     (Asked call))))
 
--- What the kinds 0 to 4 ask: read, write, compare-and-swap, flush and device read. Each takes the fields that it uses.
+-- What the kinds 0 to 4 ask: read, write, compare-and-swap, flush and device read. Each takes the fields that it uses. (Kinds 5 to 7 are
+-- refused first.)
 unfoldable pub callOf : ℕ → Mode → ℕ → ℕ → ℕ → ℕ → ℕ → Call
 callOf kind m port mask line compare x =
     cond (eqb kind 0) (ByPort Read m port line)

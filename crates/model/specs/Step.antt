@@ -5,16 +5,14 @@ use mathlib.Core.List.{List}
 use lib.ListN.{getD, set}
 use lib.Dec.{eqb}
 use Rattle.protocol.specs.declared.state.Mode.{Mode}
-use Rattle.protocol.specs.declared.state.State.{State}
 use Rattle.protocol.specs.declared.access.Access.{Access}
 use Rattle.protocol.specs.declared.access.Effect.{Effect}
 use Rattle.protocol.specs.declared.rules.Rule.{Rule}
-use Rattle.protocol.specs.State.{code, valid, owner}
+use Rattle.protocol.specs.State.{code, owner}
 use Rattle.protocol.specs.Access.{effectAt}
 use Rattle.protocol.specs.Rules.{rule, flushRule, snooped, updates}
 use Rattle.protocol.specs.Bools.{bit}
 use Rattle.model.specs.declared.shape.Shape.{Shape}
-use Rattle.model.specs.declared.order.Call.{Call}
 use Rattle.model.specs.declared.order.Call.the-variants.{ByPort, Flush, DeviceRead}
 use Rattle.model.specs.declared.order.Decoded.{Decoded}
 use Rattle.model.specs.declared.order.Decoded.the-variants.{Asked, Refused}
@@ -65,14 +63,15 @@ module _ (s : Shape) (t : Model) (i a : ℕ) where
   unfoldable pub fetches : Bool
   fetches = not (holds s t a i) && not (dirty s t a)
 
-  -- A miss takes the port's entry. Its line is the victim; if the entry is O or M, it is evicted: its word is stored at its line.
+  -- A miss takes over the port's entry at the line's index. The victim is the home line of that entry; if the entry is O or M, its word is
+  -- stored at the victim.
   abbrev pub victim : ℕ
   victim = homeAt s t (entryOf s a i)
 
-  unfoldable pub evicts : Bool
-  evicts = not (holds s t a i) && owner (stateAt t (entryOf s a i))
+  unfoldable pub evictsOwner : Bool
+  evictsOwner = not (holds s t a i) && owner (stateAt t (entryOf s a i))
 
-  -- The state byte and the word of port p's entry at the line's index, after rule r gave the line the word w: the port's own; another
+  -- The state byte and the word of port p's entry at the line's index after rule r, where the line's word is then w: the port's own; another
   -- holder's, by the snoop table; any other entry's stays.
   unfoldable pub byteAfter : Rule → ℕ → ℕ
   byteAfter r p = cond (eqb p i) (code (r .own)) (cond (holds s t a p) (code (snooped (r .bus) (seen s t a p))) (getD (t .states) (entryOf s a p) 0))
@@ -80,10 +79,10 @@ module _ (s : Shape) (t : Model) (i a : ℕ) where
   unfoldable pub wordAfter : Rule → ℕ → ℕ → ℕ
   wordAfter r w p = cond (eqb p i || holds s t a p && updates (r .bus)) w (wordAt s t a p)
 
-  -- Memory and tables after rule r gave the line the word w: the evicted word is stored first.
+  -- Memory and tables after rule r, where the line's word is then w. The evicted word is stored first.
   unfoldable pub applied : Rule → ℕ → Model
   applied r w = record {
-    memory = store (r .stores) a w (store evicts victim (wordAt s t a i) (t .memory));
+    memory = store (r .stores) a w (store evictsOwner victim (wordAt s t a i) (t .memory));
     tags = set (t .tags) (entryOf s a i) (tagOf s a);
     states = putBelow (entryOf s a) (byteAfter r) (s .ports) (t .states);
     words = putBelow (entryOf s a) (wordAfter r w) (s .ports) (t .words);
@@ -98,7 +97,7 @@ module _ (s : Shape) (t : Model) (i a : ℕ) where
   accessed acc m =
       let e = effectAt acc wordFound in
       let r = accessRule m e in
-      result (accepted (e .value) (bit (e .swapped)) (bit fetches) (bit evicts + bit (r .stores))) (applied r (e .word))
+      result (accepted (e .value) (bit (e .swapped)) (bit fetches) (bit evictsOwner + bit (r .stores))) (applied r (e .word))
 
   -- A flush: nothing changes where the port does not hold the line.
   unfoldable pub flushed : Result

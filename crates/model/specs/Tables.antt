@@ -1,4 +1,4 @@
--- Main memory and the three tables as lent, and how a port sees a line in them. Only this file and the step's put-back know the layout.
+-- Main memory and the three tables as lent, and how a port sees a line in them: `seen` and `wordAt`, over which all above is written.
 use Prim.Native.Nat.{ℕ, _+_, _*_, _%_}
 use mathlib.Core.Bool.{Bool, cond, _&&_, _||_, not}
 use mathlib.Core.List.{List}
@@ -8,7 +8,7 @@ use Rattle.protocol.specs.declared.state.State.{State}
 use Rattle.protocol.specs.declared.state.State.the-variants.{I}
 use Rattle.protocol.specs.State.{stateOf, orInvalid, isState, valid, owner}
 use Rattle.model.specs.declared.shape.Shape.{Shape}
-use Rattle.model.specs.Shape.{inRange, entries, indexOf, tagOf, entryOf}
+use Rattle.model.specs.Shape.{inRange, entries, tagOf, entryOf}
 use Rattle.model.specs.Below.{allBelow, anyBelow}
 
 -- Main memory, and the tables of tags, states and data (here: words).
@@ -19,7 +19,7 @@ pub record Model : Type 0 where
   pub words : List ℕ
 
 abbrev pub model : List ℕ → List ℕ → List ℕ → List ℕ → Model
-model m a b c = record { memory = m; tags = a; states = b; words = c }
+model memory tags states words = record { memory = memory; tags = tags; states = states; words = words }
 
 -- Memory and tables have exactly the lengths that the shape gives.
 unfoldable pub sized : Shape → Model → Bool
@@ -41,7 +41,8 @@ homeAt s t k = getD (t .tags) k 0 * s .sets + k % s .sets
 unfoldable pub sound : Shape → Model → ℕ → Bool
 sound s t k = isState (stateOf (getD (t .states) k 0)) && (not (valid (stateAt t k)) || ltb (homeAt s t k) (s .lines))
 
--- The state in which port p sees line a: I where its entry has another tag. Port p holds the line if this isn't I.
+-- The state in which port p sees line a: I where its entry has another tag, or a byte that is no state. Port p holds the line if this
+-- isn't I.
 unfoldable pub seen : Shape → Model → ℕ → ℕ → State
 seen s t a p = cond (eqb (getD (t .tags) (entryOf s a p) 0) (tagOf s a)) (stateAt t (entryOf s a p)) I
 

@@ -1,6 +1,6 @@
 -- The rule tables in numbers, as the code has them: a state by its byte, a bus command by a number, a row of a table as a word of nibbles.
 use Prim.Native.Nat.{ℕ, _+_, _*_, _/_, _%_, _^_}
-use mathlib.Core.Bool.{Bool, true, false, cond}
+use mathlib.Core.Bool.{Bool, cond}
 use mathlib.Core.List.{List, [], _∷_}
 use lib.Dec.{eqb}
 use Rattle.protocol.specs.declared.state.Mode.{Mode}

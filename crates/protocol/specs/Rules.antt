@@ -46,7 +46,7 @@ updates ShareOwned = false
 abbrev pub ruled : State → Bus → Bool → Rule
 ruled s b x = record { own = s; bus = b; stores = x }
 
--- The only holder of a new word: M, or write-through E where memory gets it too.
+-- The only holder of a word that memory lacks: M; or, where memory gets it too, write-through E.
 abbrev pub alone : Mode → State
 alone Back = M
 alone Through = E Through
@@ -56,7 +56,8 @@ abbrev pub among : Mode → State
 among Back = O
 among Through = S Through
 
--- Below, m is the mode of the access, `shared` says that another port holds the line, and `dirty` that some port owns it.
+-- Below, m is the mode of the access, `shared` says that another port holds the line, and `dirty` that some port owns it, the port itself
+-- included. Some combinations can't arise, as a port in O or M and a line that is not dirty; the table has a row for them all the same.
 
 -- A read hit, or a swap hit that fails, of a line in another mode than m. (M is write back, so m is write through there.)
 abbrev pub turned : Mode → Bool → State → Rule

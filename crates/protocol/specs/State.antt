@@ -55,7 +55,7 @@ owner (E m) = false
 owner O = true
 owner M = true
 
--- E or M: no other port holds the line.
+-- E or M. (Where the audit says yes, no other port holds the line.)
 abbrev pub exclusive : State → Bool
 exclusive I = false
 exclusive (S m) = false

@@ -8,7 +8,7 @@ pub enum Mode {
     Back,
 }
 
-// Modified, owned, exclusive, shared, invalid. A write-through line is never M or O: neither has a mode to say so.
+// Modified, owned, exclusive, shared, invalid. O and M carry no mode: they are always write back.
 pub enum State {
     I,
     S(Mode),
