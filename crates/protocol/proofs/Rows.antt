@@ -14,6 +14,7 @@ use Rattle.protocol.specs.declared.state.State.the-variants.{I, S, E, O,
 use Rattle.protocol.specs.declared.access.Outcome.{Outcome}
 use Rattle.protocol.specs.declared.access.Outcome.the-variants.{Reads, Fails, Writes}
 use Rattle.protocol.specs.declared.rules.Bus.{Bus}
+use Rattle.protocol.specs.declared.rules.Bus.the-variants.{Quiet, Share, Update, Invalidate, ShareOwned}
 use Rattle.protocol.specs.declared.rules.Rule.{Rule}
 use Rattle.protocol.specs.declared.rules.Row.{Row}
 use Rattle.protocol.specs.declared.rules.Coded.{Coded}
@@ -100,21 +101,31 @@ row-at k m shared dirty =
     digit-0 a b c d hd = omega arith
 
 -- An act: its number fits a nibble, and says the command and the store.
-bus-small : (b : Bus) → busNumber b < 8
+pub bus-below : (b : Bus) → busNumber b < 7
 unfolding busNumber
-bus-small b = ltb-true (busNumber b) 8 (at-bus (λ b. ltb (busNumber b) 8) refl b)
+bus-below b = ltb-true (busNumber b) 7 (at-bus (λ b. ltb (busNumber b) 7) refl b)
+
+pub bus-at : (b : Bus) → busAt (busNumber b) ≡ b
+unfolding busAt busNumber
+bus-at Quiet = refl
+bus-at Invalidate = refl
+bus-at ShareOwned = refl
+bus-at (Share Through) = refl
+bus-at (Share Back) = refl
+bus-at (Update Through) = refl
+bus-at (Update Back) = refl
 
 act-small : (r : Rule) → actNumber r < 16
 unfolding actNumber
-act-small r = omega (arith, bus-small (r .bus), bit-small (r .stores))
+act-small r = omega (arith, bus-below (r .bus), bit-small (r .stores))
 
 act-bus : (r : Rule) → actNumber r % 8 ≡ busNumber (r .bus)
 unfolding actNumber
-act-bus r = omega (arith, bus-small (r .bus))
+act-bus r = omega (arith, bus-below (r .bus))
 
 act-stores : (r : Rule) → leb 8 (actNumber r) ≡ r .stores
 unfolding actNumber
-act-stores r = stored (busNumber (r .bus)) (r .stores) (bus-small (r .bus))
+act-stores r = let h = bus-below (r .bus) in stored (busNumber (r .bus)) (r .stores) (omega (arith, h))
   where
     stored : (b : ℕ) (s : Bool) → b < 8 → leb 8 (b + 8 * bit s) ≡ s
     stored b true h = le-leb 8 (b + 8 * 1) (omega arith)

@@ -1,0 +1,6 @@
+-- Laws of one line's entries in the tables, that several proofs cite.
+pub mod Places
+pub mod Surveys
+pub mod Answers
+pub mod Puts
+pub mod Decided
