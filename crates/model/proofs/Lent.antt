@@ -8,8 +8,8 @@ use lib.Dec.{eqb}
 use borrow.Author.Tests.{eq-eqb, eqb-true}
 use Rattle.protocol.proofs.Bools.{Is, and-l, and-r, both, by-cond}
 use Rattle.model.specs.declared.shape.Shape.{Shape}
-use Rattle.model.specs.Shape.{within, isSets, inRange, entries}
-use Rattle.model.specs.Tables.{Model, sized, lentRefusal}
+use Rattle.model.specs.Shape.{within, isSets, inRange, fits, refusalOf, entries}
+use Rattle.model.specs.Tables.{Model, lentRefusal}
 use Rattle.model.proofs.Entries.{Sized}
 
 -- The shape is in its range, and memory and tables have its lengths.
@@ -17,8 +17,11 @@ pub record Lent (s : Shape) (t : Model) : Type 0 where
   pub range : Is (inRange s)
   pub sizes : Sized s t
 
-sized-facts : (s : Shape) (t : Model) → Is (sized s t) → Sized s t
-unfolding sized
+abbrev lengthsFit : Shape → Model → Bool
+lengthsFit s t = fits s (length (t .memory)) (length (t .tags)) (length (t .states)) (length (t .words))
+
+sized-facts : (s : Shape) (t : Model) → Is (lengthsFit s t) → Sized s t
+unfolding fits
 sized-facts s t h =
     let m = eqb (length (t .memory)) (s .lines) in
     let a = eqb (length (t .tags)) (entries s) in
@@ -31,19 +34,19 @@ sized-facts s t h =
       words = eqb-true _ _ (and-r (m && a && b) c h);
     }
 
-facts-sized : (s : Shape) (t : Model) → Sized s t → Is (sized s t)
-unfolding sized
+facts-sized : (s : Shape) (t : Model) → Sized s t → Is (lengthsFit s t)
+unfolding fits
 facts-sized s t z = both (both (both (eq-eqb _ _ (z .memory)) (eq-eqb _ _ (z .tags))) (eq-eqb _ _ (z .states))) (eq-eqb _ _ (z .words))
 
 pub lent-facts : (s : Shape) (t : Model) → lentRefusal s t ≡ 0 → Lent s t
-unfolding lentRefusal
+unfolding lentRefusal refusalOf
 lent-facts s t =
-    by-cond (λ n. n ≡ 0 → Lent s t) (inRange s) (cond (sized s t) 0 3) 2
-    (λ r. by-cond (λ n. n ≡ 0 → Lent s t) (sized s t) 0 3 (λ z _. record { range = r; sizes = sized-facts s t z }) (λ _ e. absurd (omega (arith, e))))
+    by-cond (λ n. n ≡ 0 → Lent s t) (inRange s) (cond (lengthsFit s t) 0 3) 2
+    (λ r. by-cond (λ n. n ≡ 0 → Lent s t) (lengthsFit s t) 0 3 (λ z _. record { range = r; sizes = sized-facts s t z }) (λ _ e. absurd (omega (arith, e))))
     (λ _ e. absurd (omega (arith, e)))
 
 pub facts-lent : (s : Shape) (t : Model) → Lent s t → lentRefusal s t ≡ 0
-unfolding lentRefusal
+unfolding lentRefusal refusalOf
 facts-lent s t l = rw (l .range, facts-sized s t (l .sizes))
 
 no-sets : (n : ℕ) → Is (isSets n) → zero < n

@@ -5,6 +5,7 @@ pub mod Entries
 pub mod Touched
 pub mod Applied
 pub mod Lent
+pub mod Bounds
 pub mod Audited
 pub mod Decoded
 pub mod Moved

@@ -1,8 +1,9 @@
 -- The shape: its ranges, the sizes that follow from it, and where a line's entries lie.
-use Prim.Native.Nat.{ℕ, _+_, _*_, _/_, _%_}
-use mathlib.Core.Bool.{Bool, _&&_, _||_}
+use Prim.Native.Nat.{ℕ, _+_, _*_, _-_, _/_, _%_}
+use mathlib.Core.Bool.{Bool, cond, _&&_, _||_}
 use lib.Dec.{eqb, leb}
 use Rattle.model.specs.declared.shape.Shape.{Shape}
+use Rattle.model.specs.declared.shape.Place.{Place}
 
 abbrev pub within : ℕ → ℕ → ℕ → Bool
 within low high n = leb low n && leb n high
@@ -18,6 +19,14 @@ inRange s = within 1 8 (s .ports) && isSets (s .sets) && within 1 4096 (s .lines
 abbrev pub entries : Shape → ℕ
 entries s = s .ports * s .sets
 
+-- Main memory and the three tables, of the lengths given, have exactly those that the shape gives.
+unfoldable pub fits : Shape → ℕ → ℕ → ℕ → ℕ → Bool
+fits s memory tags states words = eqb memory (s .lines) && eqb tags (entries s) && eqb states (entries s) && eqb words (entries s)
+
+-- Refusal 2, a number of the shape outside its range; refusal 3, another length; else 0.
+unfoldable pub refusalOf : Shape → ℕ → ℕ → ℕ → ℕ → ℕ
+refusalOf s memory tags states words = cond (inRange s) (cond (fits s memory tags states words) 0 3) 2
+
 -- Line a has index a mod sets and tag a div sets.
 abbrev pub indexOf : Shape → ℕ → ℕ
 indexOf s a = a % s .sets
@@ -28,3 +37,10 @@ tagOf s a = a / s .sets
 -- The number of port p's entry for line a.
 abbrev pub entryOf : Shape → ℕ → ℕ → ℕ
 entryOf s a p = p * s .sets + indexOf s a
+
+-- How many lines have the index of line a: an entry there has a home line below lines exactly where its tag is below this.
+abbrev pub tagLimit : Shape → ℕ → ℕ
+tagLimit s a = (s .lines + (s .sets - 1) - indexOf s a) / s .sets
+
+unfoldable pub placeOf : Shape → ℕ → Place
+placeOf s a = record { index = indexOf s a; tag = tagOf s a; limit = tagLimit s a }

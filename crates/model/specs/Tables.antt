@@ -8,7 +8,7 @@ use Rattle.protocol.specs.declared.state.State.{State}
 use Rattle.protocol.specs.declared.state.State.the-variants.{I}
 use Rattle.protocol.specs.State.{stateOf, orInvalid, isState, valid, owner}
 use Rattle.model.specs.declared.shape.Shape.{Shape}
-use Rattle.model.specs.Shape.{inRange, entries, tagOf, entryOf}
+use Rattle.model.specs.Shape.{refusalOf, tagOf, entryOf}
 use Rattle.model.specs.Below.{allBelow, anyBelow}
 
 -- Main memory, and the tables of tags, states and data (here: words).
@@ -21,14 +21,9 @@ pub record Model : Type 0 where
 abbrev pub model : List ℕ → List ℕ → List ℕ → List ℕ → Model
 model memory tags states words = record { memory = memory; tags = tags; states = states; words = words }
 
--- Memory and tables have exactly the lengths that the shape gives.
-unfoldable pub sized : Shape → Model → Bool
-sized s t =
-    eqb (length (t .memory)) (s .lines) && eqb (length (t .tags)) (entries s) && eqb (length (t .states)) (entries s) && eqb (length (t .words)) (entries s)
-
--- Refusal 2, a number of the shape outside its range; refusal 3, another length; else 0.
+-- Refusal 2 or 3 of what is lent, else 0.
 unfoldable pub lentRefusal : Shape → Model → ℕ
-lentRefusal s t = cond (inRange s) (cond (sized s t) 0 3) 2
+lentRefusal s t = refusalOf s (length (t .memory)) (length (t .tags)) (length (t .states)) (length (t .words))
 
 -- The state of entry k, whatever line it is of, and its home line.
 abbrev pub stateAt : Model → ℕ → State

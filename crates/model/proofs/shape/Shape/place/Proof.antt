@@ -1,0 +1,26 @@
+-- `place` is `placeOf`: tag and limit fit 32 bits. Assumes nothing.
+use borrow.Author.Needs.{needs}
+use native.Mathlib.Omega.{arith}
+use Rattle.model.specs.Shape.{placeOf}
+use Rattle.model.proofs.Bounds.{tag-small, limit-small}
+use Rattle.model.proofs.shape.Shape.place.Statement.{statement}
+use Rattle.model.proofs.shape.Shape.place.Tie as tie
+
+cast-t4 : tie.Need-cast-t4
+cast-t4 c = omega (arith, tag-small (c .before .before .args .self) (c .before .before .args .a) (c .before .before .pre .0) (c .before .before .pre .1), c .before .split .ensures .0 .1)
+
+cast-t5 : tie.Need-cast-t5
+cast-t5 c = omega (arith, limit-small (c .before .before .before .args .self) (c .before .before .before .args .a) (c .before .before .before .pre .0), c .before .before .split .ensures .1)
+
+returns : tie.Need-returns
+unfolding placeOf
+returns c = rw (c .before .before .split .ensures .0 .0, c .before .before .split .ensures .0 .1, c .before .before .split .ensures .1)
+
+pub place-spec : {M : Type 1} → statement M
+place-spec =
+    tie.close
+    (tie.spec
+    (λ c κs. search needs)
+    cast-t4
+    cast-t5
+    returns)

@@ -1,0 +1,31 @@
+-- `refusal` is `refusalOf`, by its two tests. Assumes nothing.
+use borrow.Author.Needs.{needs}
+use mathlib.Core.Path.{sym, _∙_}
+use Rattle.model.specs.Shape.{refusalOf}
+use Rattle.model.proofs.shape.Shape.refusal.Statement.{statement}
+use Rattle.model.proofs.shape.Shape.refusal.Tie as tie
+
+is-fitting-requires : tie.Need-is-fitting-requires
+is-fitting-requires c κs = sym (c .before .is-in-range .ensures) ∙ c .if1 .taken
+
+returns : tie.Need-returns
+unfolding refusalOf
+returns c = rw (← c .before .before .before .is-in-range .ensures, c .before .before .if1 .taken, ← c .before .is-fitting .ensures, c .if2 .taken)
+
+returns-2 : tie.Need-returns-2
+unfolding refusalOf
+returns-2 c = rw (← c .before .before .before .is-in-range .ensures, c .before .before .if1 .taken, ← c .before .is-fitting .ensures, c .if2 .left)
+
+returns-3 : tie.Need-returns-3
+unfolding refusalOf
+returns-3 c = rw (← c .before .is-in-range .ensures, c .if1 .left)
+
+pub refusal-spec : {M : Type 1} → statement M
+refusal-spec =
+    tie.close
+    (tie.spec
+    (λ c κs. search needs)
+    is-fitting-requires
+    returns
+    returns-2
+    returns-3)
