@@ -4,3 +4,4 @@ pub mod Surveys
 pub mod Answers
 pub mod Puts
 pub mod Decided
+pub mod Links

@@ -8,6 +8,8 @@ use lib.Dec.{eqb}
 use Rattle.protocol.specs.declared.state.State.{State}
 use Rattle.protocol.specs.declared.state.State.the-variants.{I}
 use Rattle.protocol.specs.State.{stateOf, orInvalid}
+use Rattle.model.specs.declared.shape.Shape.{Shape}
+use Rattle.model.specs.Shape.{indexOf, tagOf, tagLimit}
 use Rattle.caches.specs.declared.line.Line.{Line}
 use Rattle.caches.specs.declared.line.Entry.{Entry}
 
@@ -40,6 +42,10 @@ putAt t k e = tables (set (t .tags) k (e .tag)) (set (t .states) k (e .byte)) (s
 -- The number of port p's entry.
 abbrev pub numberOf : Line → ℕ → ℕ
 numberOf l p = p * l .sets + l .index
+
+-- The line of a shape's whole tables.
+unfoldable pub lineOf : Shape → ℕ → Line
+lineOf s a = record { ports = s .ports; sets = s .sets; index = indexOf s a; tag = tagOf s a; limit = tagLimit s a }
 
 -- How a port whose entry has tag t and byte b sees the line with the tag given.
 abbrev pub seenAs : ℕ → ℕ → ℕ → State

@@ -1,6 +1,10 @@
 // Where the ports' entries for one line are.
+use model::shape::Shape;
 ghost use mathlib.Core.Path.{_≡_};
-ghost use Rattle.caches.specs.Line.{tables, Within, entryAt, putAt};
+ghost use mathlib.Core.Bool.{true};
+ghost use Prim.Native.Nat.{_<_};
+ghost use Rattle.model.specs.Shape.{inRange};
+ghost use Rattle.caches.specs.Line.{tables, Within, lineOf, entryAt, putAt};
 
 // Port p's entry for the line has the number p * sets + index, and holds the line where it isn't I and has this tag. An entry with a tag
 // below limit has a home line below lines. The whole tables of a shape are one case; a gathered column, with sets 1 and index 0, is another.
@@ -10,6 +14,21 @@ pub struct Line {
     pub index: usize,
     pub tag: u32,
     pub limit: u32,
+}
+
+// The line of a shape's whole tables.
+pub fn line_of(shape: Shape, a: usize) -> Line
+    requires { ⌜ (inRange shape ≡ true) × (a < shape .lines) ⌝ }
+    ensures { λ r. ⌜ r ≡ lineOf shape a ⌝ }
+{
+    let place = shape.place(a);
+    Line {
+        ports: shape.ports,
+        sets: shape.sets,
+        index: place.index,
+        tag: place.tag,
+        limit: place.limit,
+    }
 }
 
 // One entry of the three tables.

@@ -61,7 +61,7 @@ module _ (s : Shape) (pos : zero < s .sets) where
   same-line a b e f = sym (div-add-mod' a (s .sets)) ∙ rw (e, f) (div-add-mod' b (s .sets))
 
   -- The home line of an entry at the line's index.
-  home-is : (t : Model) (a p : ℕ) → homeAt s t (entryOf s a p) ≡ getD (t .tags) (entryOf s a p) 0 * s .sets + indexOf s a
+  pub home-is : (t : Model) (a p : ℕ) → homeAt s t (entryOf s a p) ≡ getD (t .tags) (entryOf s a p) 0 * s .sets + indexOf s a
   home-is t a p = rw (entry-index a p) refl
 
   pub home-index : (t : Model) (a p : ℕ) → indexOf s (homeAt s t (entryOf s a p)) ≡ indexOf s a

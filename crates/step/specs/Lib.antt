@@ -1,0 +1,2 @@
+-- What the contracts of the step speak of besides the model's definitions.
+pub mod Order

@@ -1,0 +1,22 @@
+-- An order of a word and an operand, and a call whose port and line are there.
+use Prim.Native.Nat.{ℕ, _<_}
+use Rattle.model.specs.declared.shape.Shape.{Shape}
+use Rattle.model.specs.declared.order.Call.{Call}
+use Rattle.model.specs.declared.order.Call.the-variants.{ByPort, Flush, DeviceRead}
+use Rattle.model.specs.declared.order.Decoded.{Decoded}
+use Rattle.model.specs.declared.order.Decoded.the-variants.{Asked, Refused}
+use Rattle.model.specs.Order.{Order}
+
+abbrev pub order : ℕ → ℕ → Order
+order w x = record { word = w; operand = x }
+
+-- The refusal of an order taken apart, 0 where it asks something.
+abbrev pub refusalIn : Decoded → ℕ
+refusalIn (Asked c) = 0
+refusalIn (Refused n) = n
+
+-- The call names a port below ports and a line below lines.
+abbrev pub There : Shape → Call → Type 0
+There s (ByPort acc m i a) = (i < s .ports) × (a < s .lines)
+There s (Flush i a) = (i < s .ports) × (a < s .lines)
+There s (DeviceRead a) = a < s .lines
