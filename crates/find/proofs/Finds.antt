@@ -1,0 +1,115 @@
+-- Finding and the view, one law for each return; and what finding names is there. Assumes nothing.
+use Prim.Native.Nat.{ℕ, _+_, _-_, _<_, _≤_}
+use mathlib.Core.Path.{_≡_, refl, ap, sym, subst, _∙_}
+use mathlib.Core.Logic.{_≢_}
+use mathlib.Core.Bool.{Bool, true, false, not}
+use mathlib.Core.List.{List, [], _∷_}
+use lib.ListN.{getD, length, take, drop}
+use lib.Seq.{drop-cons}
+use lib.Dec.{eqb, leb}
+use native.Mathlib.Omega.{arith}
+use borrow.Author.Tests.{eq-eqb, ne-eqb, le-leb, lt-leb, eqb-true, leb-false, not-true}
+use Rattle.protocol.proofs.Bools.{by-cond}
+use Rattle.model.specs.declared.shape.Shape.{Shape}
+use Rattle.model.specs.declared.find.Found.{Found}
+use Rattle.model.specs.declared.find.Found.the-variants.{Refused, Holder, Memory}
+use Rattle.model.specs.Shape.{refusalOf, entryOf}
+use Rattle.model.specs.Below.{lowest}
+use Rattle.model.specs.Tables.{Model, lentRefusal, wordAt, memoryAt, holds, columnSound}
+use Rattle.model.specs.Find.{holderOr, find, wordsOf, view}
+use Rattle.model.proofs.Below.{lowest-cases}
+use Rattle.model.proofs.Entries.{entry-lt}
+use Rattle.model.proofs.Lent.{Lent, lent-facts, some-sets}
+use Rattle.caches.specs.declared.line.Line.{Line}
+use Rattle.caches.specs.declared.survey.Survey.{Survey}
+use Rattle.caches.specs.Survey.{holdsIn, surveyOf}
+use Rattle.caches.specs.Line.{lineOf}
+use Rattle.caches.proofs.Links.{column-link}
+use Rattle.find.proofs.Links.{holder-link}
+
+module _ (s : Shape) (t : Model) (a : ℕ) {r : ℕ} (e : r ≡ refusalOf s (length (t .memory)) (length (t .tags)) (length (t .states)) (length (t .words))) where
+  refusal-is : r ≡ lentRefusal s t
+  unfolding lentRefusal
+  refusal-is = e
+
+  pub find-misfit : r ≢ 0 → Refused r ≡ find s t a
+  unfolding find
+  find-misfit h = rw (← refusal-is, ne-eqb r 0 h)
+
+  module _ (z : r ≡ 0) where
+    pub find-far : s .lines ≤ a → Refused 6 ≡ find s t a
+    unfolding find
+    find-far h = rw (← refusal-is, eq-eqb r 0 z, le-leb _ _ h)
+
+    module _ (h : a < s .lines) {l : Line} (el : l ≡ lineOf s a) {v : Survey} (ev : v ≡ surveyOf l (t .tags) (t .states) 0 (l .ports)) where
+      column : v .sound ≡ columnSound s t a
+      unfolding surveyOf lineOf
+      column = rw (ev, el) (column-link s t a (some-sets s (lent-facts s t (sym refusal-is ∙ z) .range)))
+
+      pub find-unsound : not (v .sound) ≡ true → Refused 8 ≡ find s t a
+      unfolding find
+      find-unsound u = rw (← refusal-is, eq-eqb r 0 z, lt-leb _ _ h, ← column, not-true (v .sound) u)
+
+      held : holderOr (lowest (holdsIn l (t .tags) (t .states)) (l .ports)) ≡ holderOr (lowest (holds s t a) (s .ports))
+      unfolding lineOf
+      held = rw el (ap holderOr (holder-link s t a (s .ports)))
+
+      pub find-first : {d : Found} → not (v .sound) ≡ false → d ≡ holderOr (lowest (holdsIn l (t .tags) (t .states)) (l .ports)) → d ≡ find s t a
+      unfolding find
+      find-first u q = rw (← refusal-is, eq-eqb r 0 z, lt-leb _ _ h, ← column, not-false (v .sound) u) (q ∙ held)
+        where
+          not-false : (b : Bool) → not b ≡ false → b ≡ true
+          not-false true _ = refl
+          not-false false k = sym k
+
+-- What finding names is there.
+pub record There (s : Shape) (t : Model) (a p : ℕ) : Type 0 where
+  pub lent : Lent s t
+  pub line : a < s .lines
+  pub port : p < s .ports
+
+abbrev Named : Shape → Model → ℕ → Found → Type 0
+Named s t a (Refused n) = Unit {0}
+Named s t a (Holder p) = There s t a p
+Named s t a Memory = Lent s t × a < s .lines
+
+module _ (s : Shape) (t : Model) (a : ℕ) where
+  named : Named s t a (find s t a)
+  unfolding find
+  named =
+      by-cond (Named s t a) (eqb (lentRefusal s t) 0) _ _
+      (λ z. by-cond (Named s t a) (leb (s .lines) a) _ _ (λ _. tt)
+      (λ h. by-cond (Named s t a) (columnSound s t a) _ _
+      (λ _. lowest-cases (λ l. Named s t a (holderOr l)) (holds s t a) (s .ports)
+      (λ p q _. record { lent = lent-facts s t (eqb-true _ _ z); line = leb-false _ _ (not-true _ h); port = q })
+      (λ _. (lent-facts s t (eqb-true _ _ z), leb-false _ _ (not-true _ h))))
+      (λ _. tt)))
+      (λ _. tt)
+
+  module _ {d : Found} (f : d ≡ find s t a) where
+    pub port-there : (p : ℕ) → d ≡ Holder p → There s t a p
+    port-there p g = subst (Named s t a) (sym f ∙ g) named
+
+    pub memory-there : d ≡ Memory → Lent s t × a < s .lines
+    memory-there g = subst (Named s t a) (sym f ∙ g) named
+
+    pub view-none : (n : ℕ) → d ≡ Refused n → [] ≡ view s t a
+    unfolding view
+    view-none n g = ap (wordsOf s t a) (sym g ∙ f)
+
+    pub view-port : (p : ℕ) {k : ℕ} {l : List ℕ} → d ≡ Holder p → k ≡ entryOf s a p → l ≡ getD (t .words) k 0 ∷ [] → l ≡ view s t a
+    unfolding view wordAt
+    view-port p g ek el = el ∙ ap (λ (k : ℕ). getD (t .words) k 0 ∷ []) ek ∙ ap (wordsOf s t a) (sym g ∙ f)
+
+    pub view-memory : {l : List ℕ} → d ≡ Memory → l ≡ memoryAt t a ∷ [] → l ≡ view s t a
+    unfolding view
+    view-memory g el = el ∙ ap (wordsOf s t a) (sym g ∙ f)
+
+pub in-words : (s : Shape) (t : Model) (a p : ℕ) → There s t a p → entryOf s a p < length (t .words)
+in-words s t a p h = omega (arith, entry-lt s (some-sets s (h .lent .range)) a p (h .port), h .lent .sizes .words)
+
+pub in-memory : (s : Shape) (t : Model) (a : ℕ) → Lent s t × a < s .lines → a < length (t .memory)
+in-memory s t a h = omega (arith, h .0 .sizes .memory, h .1)
+
+pub one-is : (l : List ℕ) (k : ℕ) → k < length l → take (k + 1 - k) (drop k l) ≡ getD l k 0 ∷ []
+one-is l k h = let e : k + 1 - k ≡ 1 = omega arith in rw (e, drop-cons l k 0 h)
