@@ -11,8 +11,8 @@ use native.Mathlib.Omega.{arith}
 use borrow.Author.Tests.{eq-eqb, ne-eqb, le-leb, lt-leb, eqb-true, leb-false, not-true}
 use Rattle.protocol.proofs.Bools.{by-cond}
 use Rattle.model.specs.declared.shape.Shape.{Shape}
-use Rattle.model.specs.declared.find.Found.{Found}
-use Rattle.model.specs.declared.find.Found.the-variants.{Refused, Holder, Memory}
+use Rattle.model.specs.declared.found.Found.{Found}
+use Rattle.model.specs.declared.found.Found.the-variants.{Refused, Holder, Memory}
 use Rattle.model.specs.Shape.{refusalOf, entryOf}
 use Rattle.model.specs.Below.{lowest}
 use Rattle.model.specs.Tables.{Model, lentRefusal, wordAt, memoryAt, holds, columnSound}

@@ -11,7 +11,7 @@ use native.Mathlib.Numerals.{add-one}
 use Rattle.protocol.specs.declared.state.Byte.{Byte}
 use Rattle.protocol.specs.State.{stateOf, orInvalid, valid}
 use Rattle.protocol.proofs.Bools.{Is}
-use Rattle.model.specs.declared.find.Found.the-variants.{Holder, Memory}
+use Rattle.model.specs.declared.found.Found.the-variants.{Holder, Memory}
 use Rattle.model.specs.Below.{none, number, orElse, lowest}
 use Rattle.model.specs.Find.{holderOr}
 use Rattle.caches.specs.declared.line.Line.{Line}

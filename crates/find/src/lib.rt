@@ -2,7 +2,7 @@
 use caches::line;
 use caches::line::Line;
 use caches::survey;
-use model::find::Found;
+use model::found::Found;
 use model::shape::Shape;
 use protocol::state;
 ghost use mathlib.Core.Path.{_≡_};

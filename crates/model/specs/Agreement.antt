@@ -6,7 +6,7 @@ use mathlib.Core.Bool.{true}
 use mathlib.Core.List.{List, [], _∷_}
 use lib.ListN.{length}
 use Rattle.model.specs.declared.shape.Shape.{Shape}
-use Rattle.model.specs.declared.step.Answer.{Answer}
+use Rattle.model.specs.declared.answer.Answer.{Answer}
 use Rattle.model.specs.Order.{Order}
 use Rattle.model.specs.Below.{lowest, atOr}
 use Rattle.model.specs.Tables.{Model, lentRefusal, wordAt, memoryAt, holds, dirty}

@@ -4,8 +4,8 @@ use mathlib.Core.Bool.{cond}
 use mathlib.Core.List.{List, [], _∷_}
 use lib.Dec.{eqb, leb}
 use Rattle.model.specs.declared.shape.Shape.{Shape}
-use Rattle.model.specs.declared.find.Found.{Found}
-use Rattle.model.specs.declared.find.Found.the-variants.{Refused, Holder, Memory}
+use Rattle.model.specs.declared.found.Found.{Found}
+use Rattle.model.specs.declared.found.Found.the-variants.{Refused, Holder, Memory}
 use Rattle.model.specs.Below.{Lowest, none, number, lowest}
 use Rattle.model.specs.Tables.{Model, lentRefusal, wordAt, memoryAt, holds, columnSound}
 

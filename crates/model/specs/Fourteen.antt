@@ -9,7 +9,7 @@ use Rattle.protocol.specs.declared.state.Mode.the-variants.{Through, Back}
 use Rattle.protocol.specs.State.{code}
 use Rattle.protocol.specs.Coded.{modeNumber}
 use Rattle.model.specs.declared.shape.Shape.{Shape}
-use Rattle.model.specs.declared.step.Answer.{Answer}
+use Rattle.model.specs.declared.answer.Answer.{Answer}
 use Rattle.model.specs.Order.{Order, bits}
 use Rattle.model.specs.Tables.{Model, model, seen, memoryAt}
 use Rattle.model.specs.Step.{step}

@@ -16,7 +16,7 @@ use Rattle.model.specs.declared.shape.Shape.{Shape}
 use Rattle.model.specs.declared.order.Call.the-variants.{ByPort, Flush, DeviceRead}
 use Rattle.model.specs.declared.order.Decoded.{Decoded}
 use Rattle.model.specs.declared.order.Decoded.the-variants.{Asked, Refused}
-use Rattle.model.specs.declared.step.Answer.{Answer}
+use Rattle.model.specs.declared.answer.Answer.{Answer}
 use Rattle.model.specs.Shape.{tagOf, entryOf}
 use Rattle.model.specs.Order.{Order, decode}
 use Rattle.model.specs.Below.{anyBelow, lowest, atOr}
