@@ -1,5 +1,6 @@
 // One access or flush by a port, on the tables of a line.
 use crate::bus;
+use crate::choose;
 use crate::line;
 use crate::line::Entry;
 use crate::line::Line;
@@ -11,7 +12,7 @@ use protocol::rules;
 use protocol::state;
 use protocol::state::Mode;
 ghost use mathlib.Core.Path.{_≡_};
-ghost use mathlib.Core.Bool.{true, cond};
+ghost use mathlib.Core.Bool.{true};
 ghost use Prim.Native.Nat.{_<_};
 ghost use Rattle.protocol.specs.State.{stateOf, isState};
 ghost use Rattle.caches.specs.Line.{tables, Sized};
@@ -45,18 +46,6 @@ pub enum Flushed {
     Done(bool, u64),
 }
 
-fn choose_byte(b: bool, x: u8, y: u8) -> u8
-    ensures { λ r. ⌜ r ≡ cond b x y ⌝ }
-{
-    if b { x } else { y }
-}
-
-fn choose_word(b: bool, x: u64, y: u64) -> u64
-    ensures { λ r. ⌜ r ≡ cond b x y ⌝ }
-{
-    if b { x } else { y }
-}
-
 // The decision of an access, by the port's entry, what the ports say, the first owner's word and memory's.
 fn decide(tag: u32, e: Entry, s: Survey, found: u64, memory: u64, a: Access, m: Mode) -> Outcome
     requires { ⌜ isState (stateOf (e .byte)) ≡ true ⌝ }
@@ -65,10 +54,16 @@ fn decide(tag: u32, e: Entry, s: Survey, found: u64, memory: u64, a: Access, m: 
     let b = e.byte;
     let byte = state::byte_state(b);
     let hit = (e.tag == tag) & state::is_valid(byte);
-    let w = choose_word(hit, e.word, choose_word(s.dirty, found, memory));
+    let w = choose::choose_word(hit, e.word, choose::choose_word(s.dirty, found, memory));
     let k = access::effect_at(a, w);
     let outcome = k.outcome;
-    let r = rules::own_rule(outcome, m, s.shared, s.dirty, choose_byte(hit, b, 0));
+    let r = rules::own_rule(
+        outcome,
+        m,
+        s.shared,
+        s.dirty,
+        choose::choose_byte(hit, b, 0),
+    );
     Outcome {
         value: k.value,
         swapped: k.swapped,

@@ -1,4 +1,5 @@
 // The bus: each other port answers a command from its own part of the three tables.
+use crate::choose;
 use crate::line::Line;
 use protocol::rules;
 use protocol::state;
@@ -24,18 +25,6 @@ fn command_of(bus: u8) -> Command
     }
 }
 
-fn choose_byte(b: bool, x: u8, y: u8) -> u8
-    ensures { λ r. ⌜ r ≡ cond b x y ⌝ }
-{
-    if b { x } else { y }
-}
-
-fn choose_word(b: bool, x: u64, y: u64) -> u64
-    ensures { λ r. ⌜ r ≡ cond b x y ⌝ }
-{
-    if b { x } else { y }
-}
-
 // A port's answer, from its own part of the tables; w is the line's new word.
 fn answer(
     tags: &mut [u32],
@@ -54,8 +43,8 @@ fn answer(
     let x = data[index];
     let valid = state::is_valid(state::byte_state(b));
     let next = rules::nibble(c.row, b);
-    states[index] = choose_byte(here, next, b);
-    data[index] = choose_word(here & valid & c.hands, w, x);
+    states[index] = choose::choose_byte(here, next, b);
+    data[index] = choose::choose_word(here & valid & c.hands, w, x);
 }
 
 // The same where the port is another than the asking one; its part starts at from.

@@ -2,5 +2,6 @@
 // as a value, and the words to store go out as values.
 pub mod access;
 pub mod bus;
+mod choose;
 pub mod line;
 pub mod survey;

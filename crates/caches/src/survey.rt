@@ -1,8 +1,8 @@
 // One look at every port's entry for a line.
+use crate::choose;
 use crate::line::Line;
 use protocol::state;
 ghost use mathlib.Core.Path.{_≡_};
-ghost use mathlib.Core.Bool.{cond};
 ghost use Prim.Native.Nat.{_<_};
 ghost use lib.ListN.{getD, length};
 ghost use Rattle.caches.specs.Line.{Sized};
@@ -37,12 +37,6 @@ fn look_at(line: Line, t: u32, b: u8) -> Look
     }
 }
 
-fn choose_index(b: bool, x: usize, y: usize) -> usize
-    ensures { λ r. ⌜ r ≡ cond b x y ⌝ }
-{
-    if b { x } else { y }
-}
-
 // The survey with one more port, whose entry has the number at; other says that it isn't the asking one.
 fn note(s: Survey, k: Look, at: usize, other: bool) -> Survey
     ensures { λ r. ⌜ r ≡ noted s k at other ⌝ }
@@ -51,7 +45,7 @@ fn note(s: Survey, k: Look, at: usize, other: bool) -> Survey
         sound: s.sound & k.sound,
         shared: s.shared | (other & k.holds),
         dirty: s.dirty | k.owns,
-        first: choose_index(k.owns & !s.dirty, at, s.first),
+        first: choose::choose_index(k.owns & !s.dirty, at, s.first),
     }
 }
 

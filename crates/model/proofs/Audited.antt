@@ -7,13 +7,10 @@ use mathlib.Core.Bool.{Bool, true, false, cond, _&&_, not, false≢true}
 use native.Mathlib.Decide.{ℕ-discrete}
 use lib.Dec.{eqb}
 use borrow.Author.Tests.{eq-eqb, eqb-true, not-true}
-use Rattle.protocol.specs.declared.state.Mode.{Mode}
-use Rattle.protocol.specs.declared.state.Mode.the-variants.{Through, Back}
 use Rattle.protocol.specs.declared.state.State.{State}
-use Rattle.protocol.specs.Bools.{implies}
 use Rattle.protocol.specs.State.{valid, exclusive, isO, modeOf, sameMode}
 use Rattle.protocol.proofs.Bools.{Is, and-l, and-r, both, mp, imp, not-both, not-is, by-cond}
-use Rattle.protocol.proofs.Finite.{forStates, at-state}
+use Rattle.protocol.proofs.States.{exclusive-valid, O-valid, same-mode, mode-itself}
 use Rattle.model.specs.declared.shape.Shape.{Shape}
 use Rattle.model.specs.Shape.{entries}
 use Rattle.model.specs.Below.{allBelow}
@@ -33,22 +30,6 @@ all-two n f h = all-below (λ p. allBelow (f p) n) n (λ p hp. all-below (f p) n
 two-all : (n : ℕ) (f : ℕ → ℕ → Bool) → Is (everyTwo n f) → (p q : ℕ) → p < n → q < n → Is (f p q)
 unfolding everyTwo
 two-all n f h p q hp hq = below-all (f p) n (below-all (λ p. allBelow (f p) n) n h p hp) q hq
-
-same-mode : (m n : Mode) → Is (sameMode m n) → m ≡ n
-same-mode Through Through h = refl
-same-mode Through Back h = absurd (false≢true h)
-same-mode Back Through h = absurd (false≢true h)
-same-mode Back Back h = refl
-
-mode-itself : (m : Mode) → Is (sameMode m m)
-mode-itself Through = refl
-mode-itself Back = refl
-
-exclusive-valid : (x : State) → Is (implies (exclusive x) (valid x))
-exclusive-valid x = at-state (λ x. implies (exclusive x) (valid x)) refl x
-
-O-valid : (x : State) → Is (implies (isO x) (valid x))
-O-valid x = at-state (λ x. implies (isO x) (valid x)) refl x
 
 -- From the test to the facts.
 module _ (s : Shape) (t : Model) (a : ℕ) where
@@ -183,9 +164,9 @@ module _ (s : Shape) (t : Model) (F : ℕ → ℕ) (lent : lentRefusal s t ≡ 0
     ];
     alone = λ a p q l hp hq x vq. one-port p q (λ d. not-both x
         (and-r (sameMode (modeOf (seen s t a p)) (modeOf (seen s t a q))) _ (and-l _ (not (exclusive (seen s t a q))) (and-l _ (not (isO (seen s t a p) && isO (seen s t a q)))
-        (apart a p q l hp hq (mp (exclusive-valid (seen s t a p)) x) vq d)))));
+        (apart a p q l hp hq (exclusive-valid (seen s t a p) x) vq d)))));
     oneO = λ a p q l hp hq x y. one-port p q (λ d. not-both (both x y)
         (and-r (sameMode (modeOf (seen s t a p)) (modeOf (seen s t a q)) && not (exclusive (seen s t a p)) && not (exclusive (seen s t a q))) _
-        (apart a p q l hp hq (mp (O-valid (seen s t a p)) x) (mp (O-valid (seen s t a q)) y) d)));
+        (apart a p q l hp hq (O-valid (seen s t a p) x) (O-valid (seen s t a q) y) d)));
     clean = λ a p l hp v u. good a l .words p hp v ∙ sym (good a l .clean (λ q hq. ap not (u q hq)));
   }

@@ -1,6 +1,6 @@
 // Runs the fourteen orders of the scope, and then an order of each refusal, and prints for each its place, the five numbers, the state
-// bytes and the words of main memory; and, after each of the two parts, where each
-// line's word stands. What it prints is kept in the file stdout.
+// bytes and the words of main memory; and, after each part, the audit and where a line's word stands. What it prints is kept in the file
+// stdout.
 use model::found::Found;
 use model::shape::Shape;
 use step::order;
@@ -84,6 +84,20 @@ fn run(
     }
 }
 
+// The audit's refusal, and 1 for yes.
+fn audited(memory: &[u64], tags: &[u32], states: &[u8], data: &[u64]) {
+    let s = Shape {
+        ports: 2,
+        sets: 1,
+        lines: 2,
+    };
+    let v = audit::audit_tables(s, memory, tags, states, data);
+    io::write_all(1, b"audit ");
+    put(v.refusal);
+    put(if v.passes { 1 } else { 0 });
+    io::write_all(1, b"\n");
+}
+
 // Where line a's word stands, and the view of it.
 fn look<'a>(memory: &'a [u64], tags: &[u32], states: &[u8], data: &'a [u64], a: usize) {
     let s = Shape {
@@ -152,6 +166,7 @@ fn main() {
         0,
     ];
     run(s, &mut memory, &mut tags, &mut states, &mut data, &fourteen);
+    audited(&memory, &tags, &states, &data);
     look(&memory, &tags, &states, &data, 0);
     look(&memory, &tags, &states, &data, 1);
     look(&memory, &tags, &states, &data, 2);
@@ -205,5 +220,6 @@ fn main() {
     states[0] = 3;
     let unsound = [0x8u64, 0, 0x13, 0, 0x4, 0];
     run(s, &mut memory, &mut tags, &mut states, &mut data, &unsound);
+    audited(&memory, &tags, &states, &data);
     look(&memory, &tags, &states, &data, 0);
 }

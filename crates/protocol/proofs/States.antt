@@ -7,12 +7,14 @@ use native.Mathlib.Decide.{ℕ-discrete}
 use native.Mathlib.Omega.{arith}
 use lib.Dec.{ltb}
 use borrow.Author.Tests.{ne-eqb, ltb-true}
+use Rattle.protocol.specs.declared.state.Mode.{Mode}
 use Rattle.protocol.specs.declared.state.Mode.the-variants.{Through, Back}
 use Rattle.protocol.specs.declared.state.State.{State}
 use Rattle.protocol.specs.declared.state.State.the-variants.{I, S, E, O, M}
 use Rattle.protocol.specs.declared.state.Byte.the-variants.{Of}
-use Rattle.protocol.specs.State.{code, stateOf, isState, orInvalid, valid, owner}
-use Rattle.protocol.proofs.Bools.{Is}
+use Rattle.protocol.specs.Bools.{implies}
+use Rattle.protocol.specs.State.{code, stateOf, isState, orInvalid, valid, owner, exclusive, isO, sameMode}
+use Rattle.protocol.proofs.Bools.{Is, mp}
 use Rattle.protocol.proofs.Finite.{forStates, at-state}
 
 pub owner-valid : (s : State) → Is (owner s) → Is (valid s)
@@ -28,6 +30,23 @@ not-valid (S m) h = absurd (false≢true h)
 not-valid (E m) h = absurd (false≢true h)
 not-valid O h = absurd (false≢true h)
 not-valid M h = absurd (false≢true h)
+
+pub exclusive-valid : (s : State) → Is (exclusive s) → Is (valid s)
+exclusive-valid s h = mp (at-state (λ s. implies (exclusive s) (valid s)) refl s) h
+
+pub O-valid : (s : State) → Is (isO s) → Is (valid s)
+O-valid s h = mp (at-state (λ s. implies (isO s) (valid s)) refl s) h
+
+-- Modes that a test finds equal are equal.
+pub same-mode : (m n : Mode) → Is (sameMode m n) → m ≡ n
+same-mode Through Through h = refl
+same-mode Through Back h = absurd (false≢true h)
+same-mode Back Through h = absurd (false≢true h)
+same-mode Back Back h = refl
+
+pub mode-itself : (m : Mode) → Is (sameMode m m)
+mode-itself Through = refl
+mode-itself Back = refl
 
 -- The byte of a state is that state's.
 pub stateOf-code : (s : State) → stateOf (code s) ≡ Of s

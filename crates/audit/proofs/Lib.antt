@@ -1,0 +1,9 @@
+-- Laws of the audit's tests that several proofs cite.
+pub mod Classes
+pub mod Places
+pub mod Holding
+pub mod Passing
+pub mod Tested
+pub mod Fine
+pub mod Columns
+pub mod Verdicts

@@ -1,0 +1,30 @@
+-- A loop that ends at the first number that fails a test. Assumes nothing.
+use Prim.Native.Nat.{ℕ, _+_, _<_, _≤_}
+use mathlib.Core.Path.{_≡_, refl, ap, sym, _∙_}
+use mathlib.Core.Bool.{Bool, true, false, not}
+use native.Mathlib.Omega.{arith}
+use native.Mathlib.Numerals.{add-one}
+use borrow.Author.Tests.{not-true, not-false}
+use Rattle.protocol.proofs.Bools.{Is, both, contra}
+use Rattle.model.specs.Below.{allBelow}
+use Rattle.model.proofs.Below.{below-all}
+
+-- The first p of n numbers pass.
+pub record Passing (f : ℕ → Bool) (n p : ℕ) : Type 0 where
+  pub below : p ≤ n
+  pub passed : Is (allBelow f p)
+
+pub passing-none : (f : ℕ → Bool) (n : ℕ) → Passing f n 0
+unfolding allBelow
+passing-none f n = record { below = omega arith; passed = refl }
+
+module _ (f : ℕ → Bool) {n p : ℕ} (v : Passing f n p) where
+  pub passing-fails : {b : Bool} → p < n → b ≡ f p → not b ≡ true → false ≡ allBelow f n
+  passing-fails h e u = sym (not-true (allBelow f n) (contra (allBelow f n) (λ a. e ∙ below-all f n a p h) u))
+
+  pub passing-more : {b : Bool} → p < n → b ≡ f p → not b ≡ false → Passing f n (p + 1)
+  unfolding allBelow
+  passing-more h e u = record { below = omega arith; passed = rw add-one (both (v .passed) (sym e ∙ not-false _ u)) }
+
+  pub passing-done : n ≤ p → true ≡ allBelow f n
+  passing-done h = let z : p ≡ n = omega (arith, v .below) in sym (v .passed) ∙ ap (allBelow f) z
