@@ -1,13 +1,14 @@
 -- The tests of one entry, and of all, as the code makes them.
-use Prim.Native.Nat.{ℕ, _+_, _*_, _%_, _<_}
+use Prim.Native.Nat.{ℕ, _+_, _*_, _<_}
 use mathlib.Core.Path.{_≡_}
 use mathlib.Core.Bool.{Bool, true, false, cond, _&&_, _||_, not}
 use lib.ListN.{getD, length}
-use lib.Dec.{eqb, leb, ltb}
+use lib.Dec.{eqb, leb}
+use Rattle.protocol.specs.declared.state.Mode.the-variants.{Through, Back}
 use Rattle.protocol.specs.declared.state.State.{State}
+use Rattle.protocol.specs.declared.state.State.the-variants.{I, S, E, O, M}
 use Rattle.protocol.specs.declared.state.Byte.{Byte}
-use Rattle.protocol.specs.Bools.{bit}
-use Rattle.protocol.specs.Coded.{packed, nibbleAt, modeNumber}
+use Rattle.protocol.specs.Coded.{modeNumber}
 use Rattle.protocol.specs.State.{stateOf, isState, orInvalid, valid, owner, exclusive, modeOf}
 use Rattle.caches.specs.Line.{Tables, tables}
 use Rattle.model.specs.declared.shape.Shape.{Shape}
@@ -34,12 +35,14 @@ pub record Ready (s : Shape) (t : Model) : Type 0 where
   pub words : length (t .words) ≡ entries s
 
 -- The class of a state, as a number: 0 for I; else 8, and 1 more for write back, 2 more for E or M, 4 more for O or M.
-unfoldable pub classNumber : State → ℕ
-classNumber s = cond (valid s) (8 + modeNumber (modeOf s) + 2 * bit (exclusive s) + 4 * bit (owner s)) 0
-
--- The class of a byte, from a row with a nibble for each state.
-unfoldable pub classOf : ℕ → ℕ
-classOf b = cond (ltb b 16) (nibbleAt (packed classNumber) (b % 16)) 0
+abbrev pub classNumber : State → ℕ
+classNumber I = 0
+classNumber (S Through) = 8
+classNumber (S Back) = 9
+classNumber (E Through) = 10
+classNumber (E Back) = 11
+classNumber O = 13
+classNumber M = 15
 
 unfoldable pub lookOf : Byte → Look
 lookOf b = record {

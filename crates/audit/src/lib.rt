@@ -2,14 +2,16 @@
 // each other is asked at the turn of each.
 use caches::line;
 use model::shape::Shape;
-use protocol::rules;
 use protocol::state;
+use protocol::state::Byte;
+use protocol::state::Mode;
+use protocol::state::State;
 ghost use mathlib.Core.Path.{_≡_};
 ghost use Prim.Native.Nat.{_+_, _*_, _<_, _≤_};
-ghost use Rattle.protocol.specs.State.{stateOf};
+ghost use Rattle.protocol.specs.State.{stateOf, orInvalid};
 ghost use Rattle.caches.specs.Line.{tables, Within};
 ghost use Rattle.model.specs.Tables.{model};
-ghost use Rattle.audit.specs.Entries.{Sized, Ready, classOf, lookOf, heldAt, noted, asked, holdersOf, goesWith, entryPasses, indexPasses, columnsPass};
+ghost use Rattle.audit.specs.Entries.{Sized, Ready, classNumber, lookOf, heldAt, noted, asked, holdersOf, goesWith, entryPasses, indexPasses, columnsPass};
 ghost use Rattle.audit.specs.Verdict.{verdictOf};
 
 // The refusal, 0 if none, and the audit's yes or no.
@@ -42,22 +44,36 @@ struct Holders {
     dirty: bool,
 }
 
-// What a byte says, as a number: for a state other than I, 8, and 1 more for write back, 2 more for E or M, 4 more for O or M. Else 0.
-fn class_of(b: u8) -> u8
-    ensures { λ r. ⌜ r ≡ classOf b ⌝ }
+// What a state says, as a number: 0 for I and for a byte that is no state; else 8, and 1 more for write back, 2 more for E or M, 4 more
+// for O or M.
+fn class_of(y: Byte) -> u8
+    ensures { λ r. ⌜ r ≡ classNumber (orInvalid y) ⌝ }
 {
-    if b < 16 {
-        return rules::nibble(0xFDB9000000A80, b);
+    match y {
+        Byte::Of(s) => match s {
+            State::I => 0,
+            State::S(m) => match m {
+                Mode::Through => 8,
+                Mode::Back => 9,
+            },
+            State::E(m) => match m {
+                Mode::Through => 10,
+                Mode::Back => 11,
+            },
+            State::O => 13,
+            State::M => 15,
+        },
+        Byte::No => 0,
     }
-    0
 }
 
 fn look_of(b: u8) -> Look
     ensures { λ r. ⌜ r ≡ lookOf (stateOf b) ⌝ }
 {
-    let n = class_of(b);
+    let y = state::byte_state(b);
+    let n = class_of(y);
     Look {
-        state: state::is_state(state::byte_state(b)),
+        state: state::is_state(y),
         valid: 8 <= n,
         owner: n / 4 % 2 == 1,
         exclusive: n / 2 % 2 == 1,

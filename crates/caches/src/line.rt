@@ -7,7 +7,8 @@ ghost use Rattle.model.specs.Shape.{inRange};
 ghost use Rattle.caches.specs.Line.{tables, Within, lineOf, entryAt, putAt};
 
 // Port p's entry for the line has the number p * sets + index, and holds the line where it isn't I and has this tag. An entry with a tag
-// below limit has a home line below lines. The whole tables of a shape are one case; a gathered column, with sets 1 and index 0, is another.
+// below limit has a home line below lines. The whole tables of a shape are one case; one column of them by itself, with sets 1 and index 0,
+// is another.
 pub struct Line {
     pub ports: usize,
     pub sets: usize,

@@ -1,10 +1,11 @@
--- What holds of a step on every input: few memory accesses, and a refusal changes nothing. Assumes nothing.
+-- What holds on every input: a step makes few memory accesses, a refusal changes nothing, the audit says its plain facts, and finding's
+-- answer has its number. Assumes nothing.
 use Prim.Native.Nat.{ℕ, _≤_}
 use mathlib.Core.Path.{_≡_, refl}
 use mathlib.Core.Logic.{_≢_}
 use mathlib.Core.Bool.{Bool, true, false, cond}
 use native.Mathlib.Omega.{arith}
-use lib.Dec.{eqb}
+use lib.Dec.{eqb, leb}
 use Rattle.protocol.specs.Bools.{bit}
 use Rattle.protocol.specs.declared.state.Mode.{Mode}
 use Rattle.protocol.specs.declared.access.Access.{Access}
@@ -18,7 +19,11 @@ use Rattle.model.specs.declared.order.Decoded.the-variants.{Asked, Refus
 use Rattle.model.specs.Order.{decode}
 use Rattle.model.specs.Tables.{Model, lentRefusal, columnSound, seen, holds}
 use Rattle.model.specs.Step.{Result, refuse, wordFound, fetches, evictsOwner, accessRule, accessed, flushed, perform, step}
-use Rattle.model.specs.Claims.{FewAccesses, RefusedChangesNothing, AuditSays}
+use Rattle.model.specs.Claims.{FewAccesses, RefusedChangesNothing, FindSays, AuditSays}
+use Rattle.model.specs.declared.found.Found.{Found}
+use Rattle.model.specs.declared.found.Found.the-variants as finds
+use Rattle.model.specs.Below.{Lowest, none, number, lowest}
+use Rattle.model.specs.Find.{holderOr, find, findRefusal, foundRefusal}
 use Rattle.model.proofs.Audited.{audit-facts, facts-audit}
 
 bit-le : (b : Bool) → bit b ≤ 1
@@ -75,3 +80,22 @@ refused-changes-nothing s o t = by-cond (Still t) (eqb (lentRefusal s t) 0) _ _ 
 
 pub audit-says : AuditSays
 audit-says s t = (audit-facts s t, facts-audit s t)
+
+-- Finding's number, through its tests.
+number-cond : (b : Bool) (x y : Found) → foundRefusal (cond b x y) ≡ cond b (foundRefusal x) (foundRefusal y)
+number-cond true x y = refl
+number-cond false x y = refl
+
+no-refusal : (l : Lowest) → foundRefusal (holderOr l) ≡ 0
+no-refusal none = refl
+no-refusal (number p) = refl
+
+pub find-says : FindSays
+unfolding find findRefusal
+find-says s t a =
+    rw (
+      number-cond (eqb (lentRefusal s t) 0) (cond (leb (s .lines) a) (finds.Refused 6) (cond (columnSound s t a) (holderOr (lowest (holds s t a) (s .ports))) (finds.Refused 8))) (finds.Refused (lentRefusal s t)),
+      number-cond (leb (s .lines) a) (finds.Refused 6) (cond (columnSound s t a) (holderOr (lowest (holds s t a) (s .ports))) (finds.Refused 8)),
+      number-cond (columnSound s t a) (holderOr (lowest (holds s t a) (s .ports))) (finds.Refused 8),
+      no-refusal (lowest (holds s t a) (s .ports)),
+    )

@@ -1,5 +1,5 @@
--- The mark of a line against the orders so far: it folds their events, and the fold is 1 exactly when a write-back event comes after
--- every write-through one. Assumes nothing.
+-- The mark of a line against the orders so far: it folds their events, and the fold is 1 exactly when an event sets it and none after
+-- that clears it. Assumes nothing.
 use Prim.Native.Nat.{ℕ, zero, suc, _<_}
 use mathlib.Core.Path.{_≡_, refl, sym, _∙_, ap}
 use mathlib.Core.Logic.{_≢_, _↔_}
@@ -25,13 +25,13 @@ use Rattle.model.specs.declared.order.Decoded.{Decoded}
 use Rattle.model.specs.declared.order.Decoded.the-variants.{Asked, Refused}
 use Rattle.model.specs.Order.{Order, decode}
 use Rattle.model.specs.Flat.{Flat, FlatResult, wordIn, markIn, flatAccess, flatPerform, flatStep}
-use Rattle.model.specs.Marks.{Event, dirties, cleans, neither, isWrite, eventOf, eventsOf, flatRun, DirtySince, startEvent, MarkSays}
+use Rattle.model.specs.Marks.{Event, sets, clears, neither, isWrite, eventOf, eventsOf, flatRun, SetSince, startEvent, MarkSays}
 use Rattle.model.proofs.Moved.{Moved, access-moves}
 
 -- What an event does to a mark, and a list of events.
 abbrev moved : Event → Bool → Bool
-moved dirties old = true
-moved cleans old = false
+moved sets old = true
+moved clears old = false
 moved neither old = old
 
 fold : Bool → List Event → Bool
@@ -45,7 +45,7 @@ swapped-writes (Write mask x) w = rw (write-effect mask x w)
 swapped-writes (Swap mask compare x) w =
     by-bool (eqb (half mask w) compare) (λ h. rw (swap-succeeds mask compare x w h)) (λ h. rw (swap-fails mask compare x w h))
 
-set-or : (b old : Bool) → (b || old) ≡ moved (cond b dirties neither) old
+set-or : (b old : Bool) → (b || old) ≡ moved (cond b sets neither) old
 set-or true old = refl
 set-or false old = refl
 
@@ -95,74 +95,74 @@ mark-folds s a (o ∷ os) f h =
     mark-folds s a os (flatPerform f d .after) (rw (marks-length f d) h)
     ∙ ap (λ b. fold b (eventsOf s a os (flatPerform f d .after))) (mark-moves a f d h)
 
-pub neither≢dirties : neither ≢ dirties
-neither≢dirties p = let z : _≡_ {A = ℕ} 0 1 = cc in omega arith
+pub neither≢sets : neither ≢ sets
+neither≢sets p = let z : _≡_ {A = ℕ} 0 1 = cc in omega arith
 
-neither≢cleans : neither ≢ cleans
-neither≢cleans p = let z : _≡_ {A = ℕ} 0 1 = cc in omega arith
+neither≢clears : neither ≢ clears
+neither≢clears p = let z : _≡_ {A = ℕ} 0 1 = cc in omega arith
 
-dirties≢cleans : dirties ≢ cleans
-dirties≢cleans p = let z : _≡_ {A = ℕ} 0 1 = cc in omega arith
+sets≢clears : sets ≢ clears
+sets≢clears p = let z : _≡_ {A = ℕ} 0 1 = cc in omega arith
 
--- No write-through event after number n, in a list with one event fewer or more in front.
-later : (x y e : Event) (es : List Event) (n : ℕ) → ((k : ℕ) → n < k → getD (x ∷ es) k neither ≢ cleans)
-    → (k : ℕ) → suc n < k → getD (y ∷ e ∷ es) k neither ≢ cleans
+-- No event that clears after number n, in a list with one event fewer or more in front.
+later : (x y e : Event) (es : List Event) (n : ℕ) → ((k : ℕ) → n < k → getD (x ∷ es) k neither ≢ clears)
+    → (k : ℕ) → suc n < k → getD (y ∷ e ∷ es) k neither ≢ clears
 later x y e es n f zero h = absurd (omega arith)
 later x y e es n f (suc zero) h = absurd (omega arith)
 later x y e es n f (suc (suc k)) h = f (suc k) (omega arith)
 
-sooner : (x y e : Event) (es : List Event) (n : ℕ) → ((k : ℕ) → suc n < k → getD (y ∷ e ∷ es) k neither ≢ cleans)
-    → (k : ℕ) → n < k → getD (x ∷ es) k neither ≢ cleans
+sooner : (x y e : Event) (es : List Event) (n : ℕ) → ((k : ℕ) → suc n < k → getD (y ∷ e ∷ es) k neither ≢ clears)
+    → (k : ℕ) → n < k → getD (x ∷ es) k neither ≢ clears
 sooner x y e es n f zero h = absurd (omega arith)
 sooner x y e es n f (suc k) h = f (suc (suc k)) (omega arith)
 
 -- The first event joins the mark before it, and comes apart from it.
-join : (e : Event) (old : Bool) (es : List Event) (n : ℕ) → getD (startEvent (moved e old) ∷ es) n neither ≡ dirties
-    → ((k : ℕ) → n < k → getD (startEvent (moved e old) ∷ es) k neither ≢ cleans) → DirtySince (startEvent old ∷ e ∷ es)
-join dirties old es zero h f = (1, refl, later dirties (startEvent old) dirties es 0 f)
-join cleans old es zero h f = absurd (neither≢dirties h)
+join : (e : Event) (old : Bool) (es : List Event) (n : ℕ) → getD (startEvent (moved e old) ∷ es) n neither ≡ sets
+    → ((k : ℕ) → n < k → getD (startEvent (moved e old) ∷ es) k neither ≢ clears) → SetSince (startEvent old ∷ e ∷ es)
+join sets old es zero h f = (1, refl, later sets (startEvent old) sets es 0 f)
+join clears old es zero h f = absurd (neither≢sets h)
 join neither old es zero h f = (0, h, after)
   where
-    after : (k : ℕ) → 0 < k → getD (startEvent old ∷ neither ∷ es) k neither ≢ cleans
+    after : (k : ℕ) → 0 < k → getD (startEvent old ∷ neither ∷ es) k neither ≢ clears
     after zero l = absurd (omega arith)
-    after (suc zero) l = neither≢cleans
+    after (suc zero) l = neither≢clears
     after (suc (suc k)) l = f (suc k) (omega arith)
 join e old es (suc n) h f = (suc (suc n), h, later (startEvent (moved e old)) (startEvent old) e es (suc n) f)
 
-part : (e : Event) (old : Bool) (es : List Event) (n : ℕ) → getD (startEvent old ∷ e ∷ es) n neither ≡ dirties
-    → ((k : ℕ) → n < k → getD (startEvent old ∷ e ∷ es) k neither ≢ cleans) → DirtySince (startEvent (moved e old) ∷ es)
-part dirties true es zero h f = (0, refl, sooner dirties dirties dirties es 0 (λ k l. f k (omega arith)))
-part cleans true es zero h f = absurd (f 1 (omega arith) refl)
-part neither true es zero h f = (0, refl, sooner dirties dirties neither es 0 (λ k l. f k (omega arith)))
-part e false es zero h f = absurd (neither≢dirties h)
-part dirties old es (suc zero) h f = (0, refl, sooner dirties (startEvent old) dirties es 0 f)
-part cleans old es (suc zero) h f = absurd (dirties≢cleans (sym h))
-part neither old es (suc zero) h f = absurd (neither≢dirties h)
+part : (e : Event) (old : Bool) (es : List Event) (n : ℕ) → getD (startEvent old ∷ e ∷ es) n neither ≡ sets
+    → ((k : ℕ) → n < k → getD (startEvent old ∷ e ∷ es) k neither ≢ clears) → SetSince (startEvent (moved e old) ∷ es)
+part sets true es zero h f = (0, refl, sooner sets sets sets es 0 (λ k l. f k (omega arith)))
+part clears true es zero h f = absurd (f 1 (omega arith) refl)
+part neither true es zero h f = (0, refl, sooner sets sets neither es 0 (λ k l. f k (omega arith)))
+part e false es zero h f = absurd (neither≢sets h)
+part sets old es (suc zero) h f = (0, refl, sooner sets (startEvent old) sets es 0 f)
+part clears old es (suc zero) h f = absurd (sets≢clears (sym h))
+part neither old es (suc zero) h f = absurd (neither≢sets h)
 part e old es (suc (suc n)) h f = (suc n, h, sooner (startEvent (moved e old)) (startEvent old) e es (suc n) f)
 
-none-after : (x : Event) (k : ℕ) → 0 < k → getD (x ∷ []) k neither ≢ cleans
+none-after : (x : Event) (k : ℕ) → 0 < k → getD (x ∷ []) k neither ≢ clears
 none-after x zero l = absurd (omega arith)
-none-after x (suc k) l = neither≢cleans
+none-after x (suc k) l = neither≢clears
 
-fold-since : (old : Bool) (es : List Event) → Is (fold old es) → DirtySince (startEvent old ∷ es)
+fold-since : (old : Bool) (es : List Event) → Is (fold old es) → SetSince (startEvent old ∷ es)
 unfolding fold
-fold-since true [] h = (0, refl, none-after dirties)
+fold-since true [] h = (0, refl, none-after sets)
 fold-since false [] h = absurd (false≢true h)
 fold-since old (e ∷ es) h = let x = fold-since (moved e old) es h in join e old es (x .0) (x .1) (x .2)
 
-start-since : (old : Bool) (n : ℕ) → getD (startEvent old ∷ []) n neither ≡ dirties → Is old
+start-since : (old : Bool) (n : ℕ) → getD (startEvent old ∷ []) n neither ≡ sets → Is old
 start-since true n h = refl
-start-since false zero h = absurd (neither≢dirties h)
-start-since false (suc n) h = absurd (neither≢dirties h)
+start-since false zero h = absurd (neither≢sets h)
+start-since false (suc n) h = absurd (neither≢sets h)
 
-since-fold : (old : Bool) (es : List Event) → DirtySince (startEvent old ∷ es) → Is (fold old es)
+since-fold : (old : Bool) (es : List Event) → SetSince (startEvent old ∷ es) → Is (fold old es)
 unfolding fold
 since-fold old [] x = start-since old (x .0) (x .1)
 since-fold old (e ∷ es) x = since-fold (moved e old) es (part e old es (x .0) (x .1) (x .2))
 
--- The mark is 1 exactly when the line was written back, and so 0 exactly when it was not.
+-- The mark is 1 exactly when it was set and not cleared since, and so 0 exactly when it was not.
 mark-one : (s : Shape) (a : ℕ) (os : List Order) (f : Flat) → a < length (f .marks)
-    → Is (markIn (flatRun s os f) a) ↔ DirtySince (startEvent (markIn f a) ∷ eventsOf s a os f)
+    → Is (markIn (flatRun s os f) a) ↔ SetSince (startEvent (markIn f a) ∷ eventsOf s a os f)
 mark-one s a os f h = (
   (λ m. fold-since (markIn f a) (eventsOf s a os f) (sym (mark-folds s a os f h) ∙ m)),
   (λ x. mark-folds s a os f h ∙ since-fold (markIn f a) (eventsOf s a os f) x),

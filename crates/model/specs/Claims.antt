@@ -8,6 +8,7 @@ use Rattle.model.specs.Order.{Order}
 use Rattle.model.specs.Tables.{Model}
 use Rattle.model.specs.Step.{step, refuse}
 use Rattle.model.specs.Audit.{audit, Coherent}
+use Rattle.model.specs.Find.{find, findRefusal, foundRefusal}
 
 -- Each order makes at most one memory read and two memory writes.
 abbrev pub FewAccesses : Type 0
@@ -16,6 +17,10 @@ FewAccesses = (s : Shape) (o : Order) (t : Model) → (step s o t .answer .reads
 -- A refused order answers its number and four zeros, and changes nothing.
 abbrev pub RefusedChangesNothing : Type 0
 RefusedChangesNothing = (s : Shape) (o : Order) (t : Model) → step s o t .answer .refusal ≢ 0 → step s o t ≡ refuse (step s o t .answer .refusal) t
+
+-- Finding's answer has its refusal's number.
+abbrev pub FindSays : Type 0
+FindSays = (s : Shape) (t : Model) (a : ℕ) → foundRefusal (find s t a) ≡ findRefusal s t a
 
 -- The audit says yes exactly where its plain facts hold.
 abbrev pub AuditSays : Type 0

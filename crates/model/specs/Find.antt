@@ -22,7 +22,12 @@ find s t a =
     (Refused 8)))
     (Refused (lentRefusal s t))
 
--- The number that finding answers as its refusal.
+-- The refusal of finding, in checking order, else 0.
+unfoldable pub findRefusal : Shape → Model → ℕ → ℕ
+findRefusal s t a =
+    cond (eqb (lentRefusal s t) 0) (cond (leb (s .lines) a) 6 (cond (columnSound s t a) 0 8)) (lentRefusal s t)
+
+-- The number of each of finding's answers.
 abbrev pub foundRefusal : Found → ℕ
 foundRefusal (Refused n) = n
 foundRefusal (Holder p) = 0

@@ -69,7 +69,7 @@ table =
     row (read 2 0 Through) (answer 5 0 0 0 0) 0 0 4 255 ∷
     []
 
--- Two ports, one set, two lines, memory 5 and 7, and what fresh leaves of any tables.
+-- Two ports, one set, two lines, memory 5 and 7, and what fresh leaves of tables full of ones.
 unfoldable pub twoPorts : Shape
 twoPorts = record { ports = 2; sets = 1; lines = 2 }
 

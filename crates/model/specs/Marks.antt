@@ -15,15 +15,15 @@ use Rattle.model.specs.declared.order.Call.the-variants.{ByPort, Flush, 
 use Rattle.model.specs.declared.order.Decoded.{Decoded}
 use Rattle.model.specs.declared.order.Decoded.the-variants.{Asked, Refused}
 use Rattle.model.specs.Order.{Order, decode}
-use Rattle.model.specs.Tables.{Model, lentRefusal, memoryAt}
-use Rattle.model.specs.Step.{step}
+use Rattle.model.specs.Tables.{Model, lentRefusal}
+use Rattle.model.specs.Step.{accepted, step}
 use Rattle.model.specs.Fresh.{fresh}
 use Rattle.model.specs.Flat.{Flat, wordIn, markIn, flatStep, flatStart}
 
--- What an order is to a line: `dirties`, an accepted write-back write or successful write-back swap of it; `cleans`, an accepted
--- write-through read, write or compare-and-swap of it; or neither.
+-- What an order is to the mark of a line: `sets`, an accepted write-back write or successful write-back swap of it; `clears`, an accepted
+-- write-through read, write or compare-and-swap of it; or neither, as a flush or a device read.
 pub data Event : Type 0 where
-  dirties cleans neither : Event
+  sets clears neither : Event
 
 abbrev pub isWrite : Access → Bool
 isWrite Read = false
@@ -33,8 +33,8 @@ isWrite (Swap mask compare x) = false
 -- Of an order that was taken apart, and whose swapped number is n.
 unfoldable pub eventOf : ℕ → Decoded → ℕ → Event
 eventOf a (Refused k) n = neither
-eventOf a (Asked (ByPort acc Through i b)) n = cond (eqb b a) cleans neither
-eventOf a (Asked (ByPort acc Back i b)) n = cond (eqb b a && (isWrite acc || eqb n 1)) dirties neither
+eventOf a (Asked (ByPort acc Through i b)) n = cond (eqb b a) clears neither
+eventOf a (Asked (ByPort acc Back i b)) n = cond (eqb b a && (isWrite acc || eqb n 1)) sets neither
 eventOf a (Asked (Flush i b)) n = neither
 eventOf a (Asked (DeviceRead b)) n = neither
 
@@ -47,30 +47,32 @@ unfoldable pub flatRun : Shape → List Order → Flat → Flat
 flatRun s [] f = f
 flatRun s (o ∷ os) f = flatRun s os (flatStep s o f .after)
 
--- Some event dirties the line, and none after it cleans it. (Events are counted from 0; below, number 0 is the start.)
-abbrev pub DirtySince : List Event → Type 0
-DirtySince es = (n : ℕ) × (getD es n neither ≡ dirties) × ((k : ℕ) → n < k → getD es k neither ≢ cleans)
+-- Some event sets the mark, and none after it clears it. (Events are counted from 0; in `MarkSays` number 0 stands for the start.)
+abbrev pub SetSince : List Event → Type 0
+SetSince es = (n : ℕ) × (getD es n neither ≡ sets) × ((k : ℕ) → n < k → getD es k neither ≢ clears)
 
--- A mark of 1 at the start counts as an event that dirties the line before all orders.
+-- A mark of 1 at the start counts as an event that sets it before all orders.
 abbrev pub startEvent : Bool → Event
-startEvent true = dirties
+startEvent true = sets
 startEvent false = neither
 
--- The mark of a line is 0 exactly when no event dirtied it since the last that cleaned it, or, if there was none, since the start.
+-- The mark of a line is 0 exactly when no event set it since the last that cleared it, or, if there was none, since the start.
 abbrev pub MarkSays : Type 0
 MarkSays =
     (s : Shape) (a : ℕ) (os : List Order) (f : Flat) → a < length (f .marks)
-    → (markIn (flatRun s os f) a ≡ false) ↔ (DirtySince (startEvent (markIn f a) ∷ eventsOf s a os f) → ⊥)
+    → (markIn (flatRun s os f) a ≡ false) ↔ (SetSince (startEvent (markIn f a) ∷ eventsOf s a os f) → ⊥)
 
 -- The model after a list of orders.
 unfoldable pub modelRun : Shape → List Order → Model → Model
 modelRun s [] t = t
 modelRun s (o ∷ os) t = modelRun s os (step s o t .after)
 
--- The device guarantee in one sentence: after any list of orders from a fresh model, main memory has the flat word of every line that no
--- order dirtied since the last that cleaned it.
+-- The device guarantee in one sentence: after any list of orders from a fresh model, a device read of a line answers its flat word, if
+-- no order set the line's mark since the last that cleared it, or, if none cleared it, since the start. Of other lines nothing is said;
+-- a flush neither sets nor clears.
 abbrev pub DeviceGuarantee : Type 0
 DeviceGuarantee =
-    (s : Shape) (t : Model) → lentRefusal s t ≡ 0 → (os : List Order) (a : ℕ) → a < s .lines
-    → (DirtySince (eventsOf s a os (flatStart (t .memory))) → ⊥)
-    → memoryAt (modelRun s os (fresh s t)) a ≡ wordIn (flatRun s os (flatStart (t .memory))) a
+    (s : Shape) (t : Model) → lentRefusal s t ≡ 0 → (os : List Order) (a : ℕ)
+    → (SetSince (eventsOf s a os (flatStart (t .memory))) → ⊥)
+    → (o : Order) → decode s o ≡ Asked (DeviceRead a)
+    → step s o (modelRun s os (fresh s t)) .answer ≡ accepted (wordIn (flatRun s os (flatStart (t .memory))) a) 0 1 0

@@ -1,4 +1,5 @@
--- Main memory and the three tables as lent, and how a port sees a line in them: `seen` and `wordAt`, over which all above is written.
+-- Main memory and the three tables as lent, and how a port sees a line in them: `seen` and `wordAt`, over which step, audit,
+-- finding and the theorem are written.
 use Prim.Native.Nat.{ℕ, _+_, _*_, _%_}
 use mathlib.Core.Bool.{Bool, cond, _&&_, _||_, not}
 use mathlib.Core.List.{List}

@@ -5,7 +5,7 @@ use Rattle.audit.proofs.look_of.Statement.{statement}
 use Rattle.audit.proofs.look_of.Tie as tie
 
 returns : tie.Need-returns
-returns c = look-is _ (c .before .before .class-of .ensures) (c .before .byte-state .ensures) (c .is-state .ensures)
+returns c = look-is _ (c .before .before .byte-state .ensures) (c .before .class-of .ensures) (c .is-state .ensures)
 
 pub look-of-spec : {M : Type 1} → statement M
 look-of-spec =
