@@ -1,7 +1,7 @@
 -- The ports' answers on the bus: one entry, one port's own part of the tables, and one port more at a time. Assumes nothing.
-use Prim.Native.Nat.{ℕ, zero, suc, _+_, _*_, _-_, _%_, _<_, _≤_}
+use Prim.Native.Nat.{ℕ, suc, _+_, _-_, _%_, _<_, _≤_}
 use mathlib.Core.Path.{_≡_, refl, sym, ap, _∙_}
-use mathlib.Core.Bool.{Bool, true, false, cond, _&&_, not, false≢true}
+use mathlib.Core.Bool.{Bool, true, false, cond, _&&_, not}
 use mathlib.Core.List.{List}
 use lib.ListN.{getD, set, length, length-drop}
 use lib.Seq.{getD-drop, set-getD}
@@ -16,11 +16,11 @@ use Rattle.protocol.specs.declared.state.Byte.{Byte}
 use Rattle.protocol.specs.State.{stateOf, orInvalid, valid}
 use Rattle.protocol.specs.Coded.{nibbleAt}
 use Rattle.model.specs.Step.{putBelow}
-use Rattle.model.proofs.Entries.{putBelow-length, putBelow-other}
+use Rattle.model.proofs.Entries.{putBelow-other}
 use Rattle.caches.specs.declared.line.Line.{Line}
 use Rattle.caches.specs.declared.bus.Command.{Command}
 use Rattle.caches.specs.Line.{Tables, tables, Within, Sized, numberOf}
-use Rattle.caches.specs.Bus.{byteReply, wordReply, answerAt, byteAnswered, wordAnswered, answered, commandOf, asked}
+use Rattle.caches.specs.Bus.{answerAt, byteAnswered, wordAnswered, answered, commandOf, asked}
 use Rattle.caches.proofs.Places.{in-one, in-two, number-inj}
 
 -- One entry's answer, as the code makes it.

@@ -2,7 +2,7 @@
 use Prim.Native.Nat.{ℕ, _*_, _<_}
 use mathlib.Core.Path.{_≡_, refl, ap, sym, _∙_}
 use mathlib.Core.Logic.{_≢_}
-use mathlib.Core.Bool.{Bool, true, false, cond, _&&_, _||_, not, false≢true}
+use mathlib.Core.Bool.{Bool, true, false, cond, _&&_, not, false≢true}
 use mathlib.Core.List.{List}
 use lib.ListN.{getD, set}
 use lib.Seq.{set-getD}
@@ -22,26 +22,24 @@ use Rattle.protocol.specs.declared.rules.Coded.{Coded}
 use Rattle.protocol.specs.State.{code, stateOf, orInvalid, isState, valid, owner}
 use Rattle.protocol.specs.Access.{effectAt}
 use Rattle.protocol.specs.Rules.{rule, flushRule, snooped, updates}
-use Rattle.protocol.specs.Coded.{busNumber, busAt, coded, snoopRow}
-use Rattle.protocol.proofs.Bools.{Is, and-l, and-r, by-bool, by-cond, not-both, not-is}
+use Rattle.protocol.specs.Coded.{busNumber, busAt, coded}
+use Rattle.protocol.proofs.Bools.{Is, and-l, by-bool, by-cond}
 use Rattle.protocol.proofs.States.{not-valid, code-stateOf}
 use Rattle.protocol.proofs.Rows.{bus-below, bus-at, snooped-is}
 use Rattle.protocol.proofs.Kept.{snooped-I, quiet-same, quiet-keeps, flush-own, flush-bus, flush-stores}
-use Rattle.model.specs.Below.{allBelow, anyBelow, none, number, lowest, atOr}
-use Rattle.model.specs.Step.{putBelow}
+use Rattle.model.specs.Below.{anyBelow, lowest, atOr}
 use Rattle.model.proofs.Below.{below-all, any-below, lowest-cases}
 use Rattle.caches.specs.declared.line.Line.{Line}
 use Rattle.caches.specs.declared.line.Entry.{Entry}
 use Rattle.caches.specs.declared.survey.Survey.{Survey}
 use Rattle.caches.specs.declared.access.Outcome.{Outcome}
-use Rattle.caches.specs.declared.access.Accessed.{Accessed}
 use Rattle.caches.specs.declared.access.Accessed.the-variants.{Unsound, Done}
 use Rattle.caches.specs.declared.access.Flushed.{Flushed}
 use Rattle.caches.specs.declared.access.Flushed.the-variants as flushes
 use Rattle.caches.specs.Line.{Tables, tables, numberOf, seenAs, seenIn, entryAt, putAt}
-use Rattle.caches.specs.Survey.{soundAs, soundIn, ownsIn, surveyOf}
+use Rattle.caches.specs.Survey.{soundIn, ownsIn, surveyOf}
 use Rattle.caches.specs.Bus.{commandOf, byteReply, wordReply, byteAnswered, wordAnswered, answered, asked}
-use Rattle.caches.specs.Access.{isHit, outcome, decideOf, seenBy, byteBy, wordBy, columnIn, sharedIn, dirtyIn, foundIn, ruleIn, byteAfterIn, wordAfterIn, appliedIn, outcomeIn, accessIn, accessTables, flushIn, flushTables}
+use Rattle.caches.specs.Access.{outcome, decideOf, seenBy, byteBy, wordBy, columnIn, sharedIn, dirtyIn, foundIn, ruleIn, byteAfterIn, wordAfterIn, appliedIn, outcomeIn, accessIn, accessTables, flushIn, flushTables}
 use Rattle.caches.proofs.Places.{number-inj}
 use Rattle.caches.proofs.Answers.{tables-eq}
 use Rattle.caches.proofs.Surveys.{valid-here}

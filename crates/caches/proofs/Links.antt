@@ -1,33 +1,31 @@
 -- A line of a shape's whole tables: what the code on the tables computes is what the model defines. Assumes nothing.
 use Prim.Native.Nat.{ℕ, zero, suc, _+_, _<_}
-use mathlib.Core.Path.{_≡_, refl, sym, _∙_, ap}
-use mathlib.Core.Bool.{Bool, true, false, cond, _&&_, _||_, not}
+use mathlib.Core.Path.{_≡_, refl}
+use mathlib.Core.Bool.{Bool, cond, _&&_}
 use native.Mathlib.Nat.{mod-lt}
-use lib.ListN.{getD, length}
-use lib.Dec.{ltb}
+use lib.ListN.{getD}
 use borrow.Author.Tests.{ltb-true, not-true}
 use Rattle.protocol.specs.declared.state.Mode.{Mode}
 use Rattle.protocol.specs.declared.access.Access.{Access}
 use Rattle.protocol.specs.Bools.{bit}
-use Rattle.protocol.specs.State.{stateOf, orInvalid, isState, valid, owner}
+use Rattle.protocol.specs.State.{stateOf, isState, valid, owner}
 use Rattle.protocol.specs.Access.{effectAt}
 use Rattle.protocol.specs.Rules.{flushRule}
 use Rattle.protocol.specs.Coded.{coded}
 use Rattle.protocol.proofs.Bools.{Is, and-r, by-bool}
 use Rattle.protocol.proofs.States.{owner-valid}
 use Rattle.model.specs.declared.shape.Shape.{Shape}
-use Rattle.model.specs.Shape.{inRange, entries, indexOf, tagLimit, entryOf, placeOf}
+use Rattle.model.specs.Shape.{indexOf, entryOf}
 use Rattle.model.specs.Below.{allBelow}
 use Rattle.model.specs.Tables.{Model, model, stateAt, homeAt, sound, seen, wordAt, memoryAt, holds, dirty, columnSound}
-use Rattle.model.specs.Step.{Result, result, accepted, store, shared, wordFound, fetches, victim, evictsOwner, byteAfter, wordAfter, applied, accessRule, accessed, flushed}
+use Rattle.model.specs.Step.{result, accepted, store, shared, wordFound, fetches, evictsOwner, byteAfter, wordAfter, applied, accessRule, accessed, flushed}
 use Rattle.model.proofs.Below.{below-all}
 use Rattle.model.proofs.Entries.{entry-index}
 use Rattle.model.proofs.Bounds.{limit-is}
-use Rattle.caches.specs.declared.line.Line.{Line}
 use Rattle.caches.specs.declared.access.Outcome.{Outcome}
-use Rattle.caches.specs.Line.{Tables, tables, Sized, lineOf, numberOf, seenIn}
-use Rattle.caches.specs.Survey.{soundAs, soundIn}
-use Rattle.caches.specs.Access.{seenBy, byteBy, wordBy, columnIn, sharedIn, dirtyIn, foundIn, ruleIn, byteAfterIn, wordAfterIn, appliedIn, outcomeIn}
+use Rattle.caches.specs.Line.{Tables, tables, lineOf, seenIn}
+use Rattle.caches.specs.Survey.{soundIn}
+use Rattle.caches.specs.Access.{seenBy, wordBy, sharedIn, dirtyIn, foundIn, ruleIn, byteAfterIn, wordAfterIn, appliedIn, outcomeIn}
 
 abbrev pub tablesOf : Model → Tables
 tablesOf t = tables (t .tags) (t .states) (t .words)

@@ -1,12 +1,12 @@
 -- Where a line's entries lie: inside the tables, and apart from one another. Assumes nothing.
-use Prim.Native.Nat.{ℕ, zero, suc, _+_, _*_, _/_, _<_}
+use Prim.Native.Nat.{ℕ, _/_, _<_}
 use mathlib.Core.Path.{_≡_, sym, _∙_, ap}
 use mathlib.Core.List.{List}
 use lib.ListN.{length}
 use lib.Arith.{digits-lt, digits-div}
 use native.Mathlib.Omega.{arith}
 use Rattle.caches.specs.declared.line.Line.{Line}
-use Rattle.caches.specs.Line.{Tables, tables, Within, Sized, numberOf}
+use Rattle.caches.specs.Line.{Sized, numberOf}
 
 module _ {l : Line} {g h : List ℕ} (z : Sized l g h) (p : ℕ) (q : p < l .ports) where
   pub in-one : numberOf l p < length g

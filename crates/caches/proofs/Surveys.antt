@@ -1,5 +1,5 @@
 -- The survey, one port more at a time. Assumes nothing.
-use Prim.Native.Nat.{ℕ, zero, suc, _+_, _<_, _≤_}
+use Prim.Native.Nat.{ℕ, suc, _+_, _<_, _≤_}
 use mathlib.Core.Path.{_≡_, refl, ap, _∙_}
 use mathlib.Core.Bool.{Bool, true, false, cond, _&&_, _||_, not}
 use mathlib.Core.List.{List}
@@ -12,8 +12,7 @@ use Rattle.protocol.specs.declared.state.State.{State}
 use Rattle.protocol.specs.declared.state.State.the-variants.{I}
 use Rattle.protocol.specs.declared.state.Byte.{Byte}
 use Rattle.protocol.specs.State.{stateOf, orInvalid, isState, valid, owner}
-use Rattle.protocol.proofs.Bools.{Is, by-cond}
-use Rattle.model.specs.Below.{allBelow, anyBelow, Lowest, none, number, orElse, lowest, atOr}
+use Rattle.model.specs.Below.{allBelow, anyBelow, none, number, orElse, lowest, atOr}
 use Rattle.model.proofs.Below.{any-below, lowest-cases}
 use Rattle.caches.specs.declared.line.Line.{Line}
 use Rattle.caches.specs.declared.survey.Look.{Look}

@@ -1,7 +1,6 @@
 -- A bus command, and what the other ports' entries are after it.
 use Prim.Native.Nat.{ℕ, _%_}
 use mathlib.Core.Bool.{Bool, cond, _&&_, not}
-use mathlib.Core.List.{List}
 use lib.ListN.{getD, set}
 use lib.Dec.{eqb}
 use Rattle.protocol.specs.State.{stateOf, orInvalid, valid}

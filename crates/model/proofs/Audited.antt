@@ -3,7 +3,7 @@
 use Prim.Native.Nat.{ℕ, _<_}
 use mathlib.Core.Path.{_≡_, refl, sym, _∙_, ap}
 use mathlib.Core.Logic.{_≢_}
-use mathlib.Core.Bool.{Bool, true, false, cond, _&&_, not, false≢true}
+use mathlib.Core.Bool.{Bool, false, _&&_, not, false≢true}
 use native.Mathlib.Decide.{ℕ-discrete}
 use lib.Dec.{eqb}
 use borrow.Author.Tests.{eq-eqb, eqb-true, not-true}
@@ -19,7 +19,6 @@ use Rattle.model.specs.Audit.{entriesSound, everyTwo, bothHold, equalWor
 use Rattle.model.specs.Agreement.{lineWord}
 use Rattle.model.proofs.Below.{all-below, below-all, none-below, below-none, lowest-gives}
 use Rattle.protocol.proofs.Kept.{compatible}
-use Rattle.model.proofs.Line.{Good}
 use Rattle.model.proofs.Touched.{LineGood, Tidy}
 
 -- A test of every two ports.

@@ -1,16 +1,16 @@
 -- What a shape in range bounds, and the limit of tags at an index. Assumes nothing.
 use Prim.Native.Nat.{ℕ, zero, suc, _+_, _*_, _-_, _/_, _%_, _<_, _≤_}
 use mathlib.Core.Path.{_≡_, refl, sym, _∙_}
-use mathlib.Core.Bool.{Bool, true, false, _&&_, _||_, not, false≢true}
+use mathlib.Core.Bool.{Bool, true, false, _&&_, _||_}
 use mathlib.Core.Logic.{_≢_, _↔_}
 use native.Mathlib.Omega.{arith}
-use native.Mathlib.Nat.{mul-le-mul, div-le-self, mod-lt, div-lt-iff-lt-mul}
+use native.Mathlib.Nat.{mul-le-mul, div-le-self, div-lt-iff-lt-mul}
 use native.Mathlib.Decide.{decLt}
 use lib.Dec.{eqb, leb, ltb}
 use borrow.Author.Tests.{ne-eqb, eqb-true, leb-true, lt-ltb, le-ltb}
 use Rattle.protocol.proofs.Bools.{Is, and-l, and-r}
 use Rattle.model.specs.declared.shape.Shape.{Shape}
-use Rattle.model.specs.Shape.{within, isSets, inRange, entries, indexOf, tagOf, tagLimit}
+use Rattle.model.specs.Shape.{within, isSets, inRange, entries}
 
 or-cases : {P : Type 0} (a b : Bool) → Is (a || b) → (Is a → P) → (Is b → P) → P
 or-cases true b h f g = f refl

@@ -1,8 +1,8 @@
 -- What an order word is taken apart into: a call whose port and line are there, or refusal 4 to 7. Assumes nothing.
 use Prim.Native.Nat.{ℕ, _<_}
-use mathlib.Core.Bool.{Bool, _&&_, _||_, not}
+use mathlib.Core.Bool.{_&&_, _||_, not}
 use native.Mathlib.Omega.{arith}
-use lib.Dec.{eqb, ltb, leb}
+use lib.Dec.{eqb, leb}
 use borrow.Author.Tests.{eqb-true, lt-ltb, leb-false, not-true}
 use Rattle.protocol.specs.declared.state.Mode.{Mode}
 use Rattle.protocol.proofs.Bools.{Is, by-cond}

@@ -6,12 +6,12 @@ use mathlib.Core.List.{List, [], _∷_}
 use native.Mathlib.Omega.{arith}
 use lib.ListN.{getD, length, replicate}
 use Rattle.model.specs.declared.shape.Shape.{Shape}
-use Rattle.model.specs.Order.{Order, decode}
+use Rattle.model.specs.Order.{Order}
 use Rattle.model.specs.Tables.{Model, lentRefusal, memoryAt}
 use Rattle.model.specs.Step.{perform, step}
 use Rattle.model.specs.Fresh.{fresh}
 use Rattle.model.specs.Flat.{Flat, wordIn, markIn, flatStep, flatStart}
-use Rattle.model.specs.Marks.{Event, sets, neither, SetSince, eventsOf, flatRun, modelRun, DeviceGuarantee}
+use Rattle.model.specs.Marks.{Event, neither, SetSince, eventsOf, flatRun, modelRun, DeviceGuarantee}
 use Rattle.model.proofs.Lent.{facts-lent}
 use Rattle.model.proofs.Decoded.{decode-sound}
 use Rattle.model.proofs.Agree.{Sim, step-goes}
@@ -43,7 +43,7 @@ memory-has s t accepted os a l clear =
     let sim = run-sim s os (fresh s t) (flatStart (t .memory)) start in
     let none : markIn (flatStart (t .memory)) a ≡ false = no-marks (length (t .memory)) a in
     let mark : markIn (flatRun s os (flatStart (t .memory))) a ≡ false =
-        mark-says s a os (flatStart (t .memory)) (rw (start .flat-marks) l) .1 (λ d. clear (without-start (eventsOf s a os (flatStart (t .memory))) (rw none at d))) in
+    mark-says s a os (flatStart (t .memory)) (rw (start .flat-marks) l) .1 (λ d. clear (without-start (eventsOf s a os (flatStart (t .memory))) (rw none at d))) in
     sim .good a l .clean (sim .unmarked a l (ap not mark))
 
 pub device-guarantee : DeviceGuarantee

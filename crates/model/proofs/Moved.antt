@@ -3,7 +3,7 @@ use Prim.Native.Nat.{ℕ, _<_}
 use mathlib.Core.Path.{_≡_, refl, sym, _∙_}
 use mathlib.Core.Logic.{_≢_}
 use mathlib.Core.Bool.{Bool, true, false, _&&_, _||_, not}
-use lib.ListN.{getD, length, length-set}
+use lib.ListN.{length, length-set}
 use lib.Seq.{getD-set-same, getD-set-other}
 use lib.Dec.{eqb}
 use borrow.Author.Tests.{not-true}
@@ -15,7 +15,7 @@ use Rattle.protocol.specs.declared.access.Outcome.{Outcome}
 use Rattle.protocol.specs.declared.access.Effect.{Effect}
 use Rattle.protocol.specs.Bools.{bit}
 use Rattle.protocol.specs.State.{isBack, isThrough}
-use Rattle.protocol.specs.Word.{merge, half}
+use Rattle.protocol.specs.Word.{half}
 use Rattle.protocol.specs.Access.{effectAt, writes}
 use Rattle.protocol.proofs.Bools.{Is, by-bool}
 use Rattle.protocol.proofs.Effects.{read-effect, write-effect, swap-succeeds, swap-fails}

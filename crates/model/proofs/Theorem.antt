@@ -1,11 +1,10 @@
 -- Every list of orders: the agreement from audited tables, and from a fresh model as its instance. Assumes nothing.
-use Prim.Native.Nat.{ℕ, zero, suc, _<_}
-use mathlib.Core.Path.{_≡_, refl, _∙_, ap}
-use mathlib.Core.Bool.{Bool, true, false, cond, not, false≢true}
+use Prim.Native.Nat.{ℕ, zero, suc}
+use mathlib.Core.Path.{_≡_, refl, _∙_}
+use mathlib.Core.Bool.{Bool, true, false, cond, false≢true}
 use mathlib.Core.List.{List, [], _∷_}
 use lib.ListN.{getD, length, replicate, length-replicate}
 use lib.Dec.{eqb}
-use borrow.Author.Tests.{not-true}
 use Rattle.protocol.specs.declared.state.State.{State}
 use Rattle.protocol.specs.declared.state.State.the-variants.{I}
 use Rattle.protocol.specs.State.{stateOf}
@@ -13,10 +12,10 @@ use Rattle.protocol.proofs.Bools.{Is, contra}
 use Rattle.model.specs.declared.shape.Shape.{Shape}
 use Rattle.model.specs.Shape.{entries, tagOf, entryOf}
 use Rattle.model.specs.Order.{Order}
-use Rattle.model.specs.Tables.{Model, lentRefusal, sound, seen, memoryAt, owns, dirty}
+use Rattle.model.specs.Tables.{Model, lentRefusal, sound, seen, owns, dirty}
 use Rattle.model.specs.Step.{step}
 use Rattle.model.specs.Fresh.{zeroed, fresh}
-use Rattle.model.specs.Audit.{audit, Coherent}
+use Rattle.model.specs.Audit.{audit}
 use Rattle.model.specs.Flat.{Flat, wordIn, flatStep, flatStart}
 use Rattle.model.specs.Agreement.{AgreesOver, Agreement, Fits, AuditedAgreement}
 use Rattle.model.proofs.Below.{any-below}

@@ -1,6 +1,6 @@
 -- Reasoning by Bool tests: a test that says yes, and what follows for `&&`, `||`, `not` and `implies`. Assumes nothing.
 use mathlib.Core.Bool.{Bool, true, false, cond, _&&_, _||_, not, false≢true}
-use mathlib.Core.Path.{_≡_, refl, sym}
+use mathlib.Core.Path.{_≡_, refl}
 use Rattle.protocol.specs.Bools.{implies}
 
 -- The test says yes.

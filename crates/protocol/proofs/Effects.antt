@@ -1,7 +1,7 @@
 -- What an access does at a word, case by case: how the crates above use `effectAt`. Assumes nothing.
 use Prim.Native.Nat.{ℕ}
 use mathlib.Core.Path.{_≡_, refl}
-use mathlib.Core.Bool.{Bool, true, false, not, false≢true}
+use mathlib.Core.Bool.{true, false, not, false≢true}
 use lib.Dec.{eqb}
 use borrow.Author.Tests.{not-true}
 use Rattle.protocol.specs.declared.access.Access.{Access}

@@ -1,9 +1,9 @@
 -- What the two rule tables keep, state by state: each fact is one test that is computed over all its cases. Assumes nothing.
 use mathlib.Core.Path.{_≡_, refl}
-use mathlib.Core.Bool.{Bool, true, false, _&&_, _||_, not}
+use mathlib.Core.Bool.{Bool, false, _&&_, _||_, not}
 use Rattle.protocol.specs.declared.state.Mode.{Mode}
 use Rattle.protocol.specs.declared.state.State.{State}
-use Rattle.protocol.specs.declared.state.State.the-variants.{I, S, E, O, M}
+use Rattle.protocol.specs.declared.state.State.the-variants.{I}
 use Rattle.protocol.specs.declared.access.Outcome.{Outcome}
 use Rattle.protocol.specs.declared.rules.Bus.{Bus}
 use Rattle.protocol.specs.declared.rules.Bus.the-variants.{Quiet, Share, Update, Invalidate, ShareOwned}
@@ -13,7 +13,7 @@ use Rattle.protocol.specs.State.{valid, owner, exclusive, isO, modeOf, s
 use Rattle.protocol.specs.Access.{writes}
 use Rattle.protocol.specs.Rules.{rule, flushRule, snooped, updates}
 use Rattle.protocol.proofs.Bools.{Is}
-use Rattle.protocol.proofs.Finite.{forBools, forModes, forOutcomes, forStates, forBuses, at-bool, at-mode, at-outcome, at-state, at-bus}
+use Rattle.protocol.proofs.Finite.{forBools, forModes, forOutcomes, forStates, at-bool, at-mode, at-outcome, at-state, at-bus}
 
 -- Two ports may hold one line in these states: equal modes, neither E nor M, and one O at most. A port in I goes with any.
 abbrev pub compatible : State → State → Bool

@@ -1,9 +1,8 @@
 -- Rows of nibbles: what stands at a state's nibble of a packed row, and the number of a row. Assumes nothing.
 use Prim.Native.Nat.{ℕ, zero, suc, _+_, _*_, _/_, _%_, _<_, _≤_}
-use mathlib.Core.Bool.{Bool, true, false, cond}
-use mathlib.Core.Path.{_≡_, refl, sym, _∙_, ap, subst}
+use mathlib.Core.Bool.{Bool, true, false}
+use mathlib.Core.Path.{_≡_, refl, sym, _∙_}
 use mathlib.Core.Logic.{_≢_}
-use native.Mathlib.Nat.{div-one, mod-lt}
 use native.Mathlib.Omega.{arith}
 use lib.Dec.{eqb, leb, ltb}
 use borrow.Author.Tests.{ltb-true, le-leb, lt-leb, leb-true, leb-false, ne-eqb, not-true}
@@ -23,7 +22,7 @@ use Rattle.protocol.specs.State.{code, stateOf, isState, orInvalid}
 use Rattle.protocol.specs.Rules.{rule, snooped, updates}
 use Rattle.protocol.specs.Coded.{busNumber, busAt, coded, pack, nibbleAt, packed, actNumber, ownRow, outcomeNumber, modeNumber, outcomeAt, modeAt, ownRowAt, snoopRow}
 use Rattle.protocol.proofs.Bools.{Is, by-bool, by-cond}
-use Rattle.protocol.proofs.Finite.{forBuses, at-bus}
+use Rattle.protocol.proofs.Finite.{at-bus}
 use Rattle.protocol.proofs.States.{code-small, code-stateOf}
 
 -- The nibble at a state's byte is what the row was packed from.

@@ -1,10 +1,9 @@
 -- Laws of states and their bytes. Assumes nothing.
 use Prim.Native.Nat.{ℕ, _<_}
-use mathlib.Core.Bool.{Bool, true, false, not, false≢true}
+use mathlib.Core.Bool.{not, false≢true}
 use mathlib.Core.Path.{_≡_, refl, sym, subst}
 use mathlib.Core.Logic.{_≢_}
 use native.Mathlib.Decide.{ℕ-discrete}
-use native.Mathlib.Omega.{arith}
 use lib.Dec.{ltb}
 use borrow.Author.Tests.{ne-eqb, ltb-true}
 use Rattle.protocol.specs.declared.state.Mode.{Mode}
@@ -15,7 +14,7 @@ use Rattle.protocol.specs.declared.state.Byte.the-variants.{Of}
 use Rattle.protocol.specs.Bools.{implies}
 use Rattle.protocol.specs.State.{code, stateOf, isState, orInvalid, valid, owner, exclusive, isO, sameMode}
 use Rattle.protocol.proofs.Bools.{Is, mp}
-use Rattle.protocol.proofs.Finite.{forStates, at-state}
+use Rattle.protocol.proofs.Finite.{at-state}
 
 pub owner-valid : (s : State) → Is (owner s) → Is (valid s)
 owner-valid I h = h

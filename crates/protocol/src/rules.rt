@@ -4,7 +4,7 @@ use crate::state::Mode;
 use crate::state::State;
 ghost use mathlib.Core.Path.{_≡_};
 ghost use mathlib.Core.Bool.{true};
-ghost use Prim.Native.Nat.{ℕ, _<_, _≤_, _%_};
+ghost use Prim.Native.Nat.{_<_, _≤_, _%_};
 ghost use Rattle.protocol.specs.Bools.{bit};
 ghost use Rattle.protocol.specs.State.{code, stateOf, orInvalid, isState};
 ghost use Rattle.protocol.specs.Rules.{rule, snooped, updates};

@@ -2,18 +2,17 @@
 use Prim.Native.Nat.{ℕ, zero, _+_, _*_, _^_, _<_, _≤_}
 use mathlib.Core.Path.{_≡_, refl, sym, _∙_, ap}
 use mathlib.Core.Logic.{_≢_}
-use mathlib.Core.Bool.{Bool, true, false, cond, not, _&&_, false≢true}
+use mathlib.Core.Bool.{Bool, true, false, cond, not, false≢true}
 use mathlib.Core.List.{List}
 use native.Mathlib.Omega.{arith}
 use native.Mathlib.Nat.{mod-lt, mul-le-mul}
-use lib.ListN.{getD, length}
-use lib.Dec.{eqb}
-use borrow.Author.Tests.{eq-eqb, ne-eqb, not-true}
+use lib.ListN.{length}
+use borrow.Author.Tests.{eq-eqb, ne-eqb}
 use Rattle.protocol.specs.declared.state.Mode.{Mode}
 use Rattle.protocol.specs.declared.access.Access.{Access}
 use Rattle.protocol.specs.Bools.{bit}
-use Rattle.protocol.specs.State.{stateOf, orInvalid, valid, owner}
-use Rattle.protocol.proofs.Bools.{Is, and-r, by-bool, by-cond}
+use Rattle.protocol.specs.State.{valid, owner}
+use Rattle.protocol.proofs.Bools.{Is, and-r}
 use Rattle.model.specs.declared.shape.Shape.{Shape}
 use Rattle.model.specs.declared.order.Call.{Call}
 use Rattle.model.specs.declared.order.Call.the-variants.{ByPort, Flush, DeviceRead}
@@ -22,9 +21,8 @@ use Rattle.model.specs.declared.order.Decoded.the-variants.{Asked, Refused}
 use Rattle.model.specs.declared.answer.Answer.{Answer}
 use Rattle.model.specs.Shape.{refusalOf, entryOf}
 use Rattle.model.specs.Order.{Order, decode}
-use Rattle.model.specs.Below.{allBelow}
 use Rattle.model.specs.Tables.{Model, model, lentRefusal, stateAt, homeAt, memoryAt, columnSound}
-use Rattle.model.specs.Step.{Result, result, refused, refuse, accepted, store, accessed, flushed, perform, step}
+use Rattle.model.specs.Step.{Result, result, refused, store, perform, step}
 use Rattle.model.proofs.Lent.{lent-facts, some-sets}
 use Rattle.model.proofs.Bounds.{bounded}
 use Rattle.model.proofs.Entries as entry
@@ -35,11 +33,10 @@ use Rattle.caches.specs.declared.access.Accessed.{Accessed}
 use Rattle.caches.specs.declared.access.Accessed.the-variants.{Unsound, Done}
 use Rattle.caches.specs.declared.access.Flushed.{Flushed}
 use Rattle.caches.specs.declared.access.Flushed.the-variants as flushes
-use Rattle.caches.specs.Line.{Tables, tables, Sized, lineOf, numberOf}
-use Rattle.caches.specs.Survey.{soundIn}
-use Rattle.caches.specs.Access.{columnIn, outcomeIn, accessIn, accessTables, flushIn, flushTables, seenBy, wordBy, byteBy}
-use Rattle.caches.proofs.Links.{tablesOf, column-link, home-there, outcomeOf, appliedTables, access-link, flushStores, afterFlush, flushedTables, flush-link}
-use Rattle.step.specs.Order.{order, There, refusalIn}
+use Rattle.caches.specs.Line.{Tables, Sized, lineOf}
+use Rattle.caches.specs.Access.{columnIn, outcomeIn, accessIn, accessTables, flushIn, flushTables, seenBy, wordBy}
+use Rattle.caches.proofs.Links.{tablesOf, column-link, home-there, outcomeOf, access-link, flushStores, flush-link}
+use Rattle.step.specs.Order.{There, refusalIn}
 
 -- A home line fits: a tag of 32 bits, at most 64 sets.
 pub home-fits : (x n i : ℕ) → x < 2 ^ 32 → n ≤ 64 → i < n → x * n + i < 2 ^ 40

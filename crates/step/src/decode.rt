@@ -5,7 +5,7 @@ use model::shape::Shape;
 use protocol::access::Access;
 use protocol::state::Mode;
 ghost use mathlib.Core.Path.{_≡_};
-ghost use Rattle.model.specs.Order.{Order, modeIn, checked, callOf, decode};
+ghost use Rattle.model.specs.Order.{modeIn, checked, callOf, decode};
 ghost use Rattle.step.specs.Order.{order};
 
 fn mode_in(w: u64) -> Mode

@@ -1,7 +1,6 @@
 // A fresh model: zeros in the three tables.
 use model::shape::Shape;
 ghost use mathlib.Core.Path.{_≡_};
-ghost use Prim.Native.Nat.{_≤_};
 ghost use lib.ListN.{length, replicate};
 ghost use Rattle.model.specs.Tables.{model, lentRefusal};
 ghost use Rattle.model.specs.Fresh.{fresh};

@@ -1,5 +1,4 @@
 -- Each row of `own_row` is the packed row of its case: computed. Assumes nothing.
-use mathlib.Core.Path.{_≡_}
 use Rattle.protocol.specs.State.{code}
 use Rattle.protocol.specs.Rules.{rule}
 use Rattle.protocol.specs.Coded.{busNumber, pack, packed, actNumber, ownRow, outcomeAt, modeAt, ownRowAt}

@@ -1,5 +1,4 @@
 -- Each row of `snoop_row` is the packed row of its command: computed. Assumes nothing.
-use mathlib.Core.Path.{_≡_}
 use Rattle.protocol.specs.State.{code}
 use Rattle.protocol.specs.Rules.{snooped}
 use Rattle.protocol.specs.Coded.{pack, packed, busAt, snoopRow}

@@ -1,7 +1,6 @@
 -- One access on the tables, then at most two stores. Assumes nothing.
 use borrow.Author.Needs.{needs}
 use native.Mathlib.Omega.{arith}
-use mathlib.Core.Path.{sym, _∙_}
 use Rattle.model.proofs.Lent.{lent-facts}
 use Rattle.step.proofs.Orders.{in-memory, line-sized, line-sized-words, port-there, line-small, access-refused, home-in, access-done}
 use Rattle.step.proofs.order.access_order.Statement.{statement}

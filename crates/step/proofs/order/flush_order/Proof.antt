@@ -1,6 +1,5 @@
 -- One flush on the tables, then at most one store. Assumes nothing.
 use borrow.Author.Needs.{needs}
-use native.Mathlib.Omega.{arith}
 use Rattle.model.proofs.Lent.{lent-facts}
 use Rattle.step.proofs.Orders.{in-memory, line-sized, line-sized-words, port-there, flush-refused, flush-done}
 use Rattle.step.proofs.order.flush_order.Statement.{statement}
