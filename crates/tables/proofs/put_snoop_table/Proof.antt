@@ -1,0 +1,24 @@
+-- The loop goes through the rows. Assumes nothing.
+use borrow.Author.Needs.{needs}
+use Prim.Native.Nat.{_≤_, _-_}
+use Rattle.tables.proofs.put_snoop_table.Statement.{statement}
+use Rattle.tables.proofs.put_snoop_table.Tie as tie
+
+abbrev Inv-loop : tie.InvT-loop
+Inv-loop k₀ k = k ≤ 42
+
+abbrev μ-loop : tie.MeasureT-loop
+μ-loop k₀ k = 42 - k
+
+pub put-snoop-table-spec : {M : Type 1} → statement M
+put-snoop-table-spec =
+    tie.close
+    (tie.spec
+    Inv-loop
+    μ-loop
+    (λ c. search needs)
+    (λ c κs. search needs)
+    (λ c. search needs)
+    (λ c. search needs)
+    (λ c. search needs)
+    (λ c. search needs))
