@@ -8,7 +8,7 @@ use lib.Dec.{eqb}
 use borrow.Author.Tests.{eq-eqb, ne-eqb, not-true, not-false}
 use native.Mathlib.Omega.{arith}
 use native.Mathlib.Numerals.{add-one}
-use Rattle.caches.specs.Line.{Tables}
+use Rattle.ports.specs.Line.{Tables}
 use Rattle.model.specs.Below.{allBelow, anyBelow}
 use Rattle.audit.specs.declared.Held.{Held}
 use Rattle.audit.specs.declared.Holders.{Holders}

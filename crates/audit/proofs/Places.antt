@@ -3,7 +3,7 @@ use Prim.Native.Nat.{ℕ, _+_, _*_, _^_, _<_, _≤_}
 use lib.Arith.{digits-lt}
 use native.Mathlib.Omega.{arith}
 use native.Mathlib.Nat.{mul-le-mul}
-use Rattle.caches.specs.Line.{Tables, Within}
+use Rattle.ports.specs.Line.{Tables, Within}
 use Rattle.model.specs.declared.shape.Shape.{Shape}
 use Rattle.model.specs.Tables.{Model}
 use Rattle.audit.specs.Entries.{Sized, Ready, tablesOf}

@@ -10,7 +10,7 @@ use Rattle.protocol.specs.declared.state.State.the-variants.{I, S, E, O, M}
 use Rattle.protocol.specs.declared.state.Byte.{Byte}
 use Rattle.protocol.specs.Coded.{modeNumber}
 use Rattle.protocol.specs.State.{stateOf, isState, orInvalid, valid, owner, exclusive, modeOf}
-use Rattle.caches.specs.Line.{Tables, tables}
+use Rattle.ports.specs.Line.{Tables, tables}
 use Rattle.model.specs.declared.shape.Shape.{Shape}
 use Rattle.model.specs.Shape.{inRange, entries}
 use Rattle.model.specs.Below.{allBelow, anyBelow}

@@ -1,7 +1,7 @@
 // The audit of main memory and the tables, entry by entry: its cost follows the entries, not the lines. What two holders of a line ask of
 // each other is asked at the turn of each.
-use caches::line;
 use model::shape::Shape;
+use ports::line;
 use protocol::state;
 use protocol::state::Byte;
 use protocol::state::Mode;
@@ -9,7 +9,7 @@ use protocol::state::State;
 ghost use mathlib.Core.Path.{_≡_};
 ghost use Prim.Native.Nat.{_+_, _*_, _<_, _≤_};
 ghost use Rattle.protocol.specs.State.{stateOf, orInvalid};
-ghost use Rattle.caches.specs.Line.{tables, Within};
+ghost use Rattle.ports.specs.Line.{tables, Within};
 ghost use Rattle.model.specs.Tables.{model};
 ghost use Rattle.audit.specs.Entries.{Sized, Ready, classNumber, lookOf, heldAt, noted, asked, holdersOf, goesWith, entryPasses, indexPasses, columnsPass};
 ghost use Rattle.audit.specs.Verdict.{verdictOf};
@@ -21,27 +21,27 @@ pub struct Verdict {
 }
 
 // What a byte of the state table says: whether it is a state, isn't I, is O or M, and is E or M; and its mode, 1 for write back.
-struct Look {
-    state: bool,
-    valid: bool,
-    owner: bool,
-    exclusive: bool,
-    mode: u8,
+pub struct Look {
+    pub state: bool,
+    pub valid: bool,
+    pub owner: bool,
+    pub exclusive: bool,
+    pub mode: u8,
 }
 
 // One entry of the tables, with what its byte says.
-struct Held {
-    tag: u32,
-    word: u64,
-    look: Look,
+pub struct Held {
+    pub tag: u32,
+    pub word: u64,
+    pub look: Look,
 }
 
 // What the ports say of an entry's line: whether those that hold it have the entry's word and mode, whether another port than the entry's
 // holds it, and whether another owns it.
-struct Holders {
-    agree: bool,
-    shared: bool,
-    dirty: bool,
+pub struct Holders {
+    pub agree: bool,
+    pub shared: bool,
+    pub dirty: bool,
 }
 
 // What a state says, as a number: 0 for I and for a byte that is no state; else 8, and 1 more for write back, 2 more for E or M, 4 more
@@ -67,7 +67,7 @@ fn class_of(y: Byte) -> u8
     }
 }
 
-fn look_of(b: u8) -> Look
+pub fn look_of(b: u8) -> Look
     ensures { λ r. ⌜ r ≡ lookOf (stateOf b) ⌝ }
 {
     let y = state::byte_state(b);
@@ -95,7 +95,7 @@ fn held_at(tags: &[u32], states: &[u8], data: &[u64], k: usize) -> Held
 }
 
 // What the ports say of entry e's line with one more, whose entry f holds it; other says that it isn't e's port.
-fn note(h: Holders, e: Held, f: Held, other: bool) -> Holders
+pub fn note(h: Holders, e: Held, f: Held, other: bool) -> Holders
     ensures { λ r. ⌜ r ≡ noted h e f other ⌝ }
 {
     let x = e.look;
@@ -162,7 +162,7 @@ fn ask_holders(
 }
 
 // The home line of an entry with the tag given at index x.
-fn home_of(tag: u32, sets: usize, x: usize) -> usize
+pub fn home_of(tag: u32, sets: usize, x: usize) -> usize
     requires { ⌜ (sets ≤ 64) × (x < sets) ⌝ }
     ensures { λ r. ⌜ r ≡ tag * sets + x ⌝ }
 {
@@ -172,7 +172,7 @@ fn home_of(tag: u32, sets: usize, x: usize) -> usize
 
 // An entry with the look y goes with what the ports say of its line: the holders have its word and mode, no other holds the line if it
 // is E or M, no other owns the line if it does, and some port owns it or memory has the word (clean).
-fn goes_with(y: Look, h: Holders, clean: bool) -> bool
+pub fn goes_with(y: Look, h: Holders, clean: bool) -> bool
     ensures { λ r. ⌜ r ≡ goesWith y h clean ⌝ }
 {
     let alone = !(y.exclusive & h.shared) & !(y.owner & h.dirty);

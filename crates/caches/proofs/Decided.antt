@@ -29,20 +29,20 @@ use Rattle.protocol.proofs.Rows.{bus-below, bus-at, snooped-is}
 use Rattle.protocol.proofs.Kept.{snooped-I, quiet-same, quiet-keeps, flush-own, flush-bus, flush-stores}
 use Rattle.model.specs.Below.{anyBelow, lowest, atOr}
 use Rattle.model.proofs.Below.{below-all, any-below, lowest-cases}
-use Rattle.caches.specs.declared.line.Line.{Line}
-use Rattle.caches.specs.declared.line.Entry.{Entry}
-use Rattle.caches.specs.declared.survey.Survey.{Survey}
+use Rattle.ports.specs.declared.line.Line.{Line}
+use Rattle.ports.specs.declared.line.Entry.{Entry}
+use Rattle.ports.specs.declared.survey.Survey.{Survey}
 use Rattle.caches.specs.declared.access.Outcome.{Outcome}
 use Rattle.caches.specs.declared.access.Accessed.the-variants.{Unsound, Done}
 use Rattle.caches.specs.declared.access.Flushed.{Flushed}
 use Rattle.caches.specs.declared.access.Flushed.the-variants as flushes
-use Rattle.caches.specs.Line.{Tables, tables, numberOf, seenAs, seenIn, entryAt, putAt}
-use Rattle.caches.specs.Survey.{soundIn, ownsIn, surveyOf}
-use Rattle.caches.specs.Bus.{commandOf, byteReply, wordReply, byteAnswered, wordAnswered, answered, asked}
+use Rattle.ports.specs.Line.{Tables, tables, numberOf, seenAs, seenIn, entryAt, putAt}
+use Rattle.ports.specs.Survey.{soundIn, ownsIn, surveyOf}
+use Rattle.ports.specs.Bus.{commandOf, byteReply, wordReply, byteAnswered, wordAnswered, answered, asked}
 use Rattle.caches.specs.Access.{outcome, decideOf, seenBy, byteBy, wordBy, columnIn, sharedIn, dirtyIn, foundIn, ruleIn, byteAfterIn, wordAfterIn, appliedIn, outcomeIn, accessIn, accessTables, flushIn, flushTables}
-use Rattle.caches.proofs.Places.{number-inj}
-use Rattle.caches.proofs.Answers.{tables-eq}
-use Rattle.caches.proofs.Surveys.{valid-here}
+use Rattle.ports.proofs.Places.{number-inj}
+use Rattle.ports.proofs.Answers.{tables-eq}
+use Rattle.ports.proofs.Surveys.{valid-here}
 use Rattle.caches.proofs.Puts.{own-last, own-alone}
 
 -- A reply in numbers is the snoop table's, at a byte that is a state.

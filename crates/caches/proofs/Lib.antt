@@ -1,7 +1,4 @@
--- Laws of one line's entries in the tables, that several proofs cite.
-pub mod Places
-pub mod Surveys
-pub mod Answers
+-- Laws of one access or flush on the tables, that several proofs cite.
 pub mod Puts
 pub mod Decided
 pub mod Links

@@ -23,8 +23,8 @@ use Rattle.model.proofs.Below.{below-all}
 use Rattle.model.proofs.Entries.{entry-index}
 use Rattle.model.proofs.Bounds.{limit-is}
 use Rattle.caches.specs.declared.access.Outcome.{Outcome}
-use Rattle.caches.specs.Line.{Tables, tables, lineOf, seenIn}
-use Rattle.caches.specs.Survey.{soundIn}
+use Rattle.ports.specs.Line.{Tables, tables, lineOf, seenIn}
+use Rattle.ports.specs.Survey.{soundIn}
 use Rattle.caches.specs.Access.{seenBy, wordBy, sharedIn, dirtyIn, foundIn, ruleIn, byteAfterIn, wordAfterIn, appliedIn, outcomeIn}
 
 abbrev pub tablesOf : Model → Tables

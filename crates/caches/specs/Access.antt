@@ -15,16 +15,16 @@ use Rattle.protocol.specs.Rules.{rule, flushRule, snooped, updates}
 use Rattle.protocol.specs.Coded.{coded}
 use Rattle.model.specs.Below.{allBelow, anyBelow, lowest, atOr}
 use Rattle.model.specs.Step.{putBelow}
-use Rattle.caches.specs.declared.line.Line.{Line}
-use Rattle.caches.specs.declared.line.Entry.{Entry}
-use Rattle.caches.specs.declared.survey.Survey.{Survey}
+use Rattle.ports.specs.declared.line.Line.{Line}
+use Rattle.ports.specs.declared.line.Entry.{Entry}
+use Rattle.ports.specs.declared.survey.Survey.{Survey}
 use Rattle.caches.specs.declared.access.Outcome.{Outcome}
 use Rattle.caches.specs.declared.access.Accessed.{Accessed}
 use Rattle.caches.specs.declared.access.Accessed.the-variants.{Unsound, Done}
 use Rattle.caches.specs.declared.access.Flushed.{Flushed}
 use Rattle.caches.specs.declared.access.Flushed.the-variants as flushes
-use Rattle.caches.specs.Line.{Tables, tables, numberOf, seenIn}
-use Rattle.caches.specs.Survey.{soundIn, holdsIn, ownsIn}
+use Rattle.ports.specs.Line.{Tables, tables, numberOf, seenIn}
+use Rattle.ports.specs.Survey.{soundIn, holdsIn, ownsIn}
 
 -- The decision of an access on values: the port's entry e, what the ports say, the first owner's word and memory's.
 abbrev pub isHit : ℕ → Entry → Bool

@@ -1,5 +1,2 @@
--- What the code on the tables computes, line by line; the laws in proofs/ say that this is what the model defines.
-pub mod Line
-pub mod Survey
-pub mod Bus
+-- What an access or a flush computes on the tables; the laws in proofs/ say that this is what the model defines.
 pub mod Access

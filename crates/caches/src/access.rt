@@ -1,11 +1,11 @@
 // One access or flush by a port, on the tables of a line.
-use crate::bus;
-use crate::choose;
-use crate::line;
-use crate::line::Entry;
-use crate::line::Line;
-use crate::survey;
-use crate::survey::Survey;
+use ports::bus;
+use ports::choose;
+use ports::line;
+use ports::line::Entry;
+use ports::line::Line;
+use ports::survey;
+use ports::survey::Survey;
 use protocol::access;
 use protocol::access::Access;
 use protocol::rules;
@@ -15,7 +15,7 @@ ghost use mathlib.Core.Path.{_≡_};
 ghost use mathlib.Core.Bool.{true};
 ghost use Prim.Native.Nat.{_<_};
 ghost use Rattle.protocol.specs.State.{stateOf, isState};
-ghost use Rattle.caches.specs.Line.{tables, Sized};
+ghost use Rattle.ports.specs.Line.{tables, Sized};
 ghost use Rattle.caches.specs.Access.{decideOf, accessIn, accessTables, flushIn, flushTables};
 
 // What an access hands out: the answer's value and swapped mark; whether memory's word was fetched; whether the old entry's word is to be
@@ -47,7 +47,7 @@ pub enum Flushed {
 }
 
 // The decision of an access, by the port's entry, what the ports say, the first owner's word and memory's.
-fn decide(tag: u32, e: Entry, s: Survey, found: u64, memory: u64, a: Access, m: Mode) -> Outcome
+pub fn decide(tag: u32, e: Entry, s: Survey, found: u64, memory: u64, a: Access, m: Mode) -> Outcome
     requires { ⌜ isState (stateOf (e .byte)) ≡ true ⌝ }
     ensures { λ r. ⌜ (r ≡ decideOf tag e s found memory a m) × (r .bus < 7) ⌝ }
 {

@@ -20,10 +20,10 @@ use Rattle.model.specs.Find.{holderOr, find, wordsOf, view}
 use Rattle.model.proofs.Below.{lowest-cases}
 use Rattle.model.proofs.Entries.{entry-lt}
 use Rattle.model.proofs.Lent.{Lent, lent-facts, some-sets}
-use Rattle.caches.specs.declared.line.Line.{Line}
-use Rattle.caches.specs.declared.survey.Survey.{Survey}
-use Rattle.caches.specs.Survey.{holdsIn, surveyOf}
-use Rattle.caches.specs.Line.{lineOf}
+use Rattle.ports.specs.declared.line.Line.{Line}
+use Rattle.ports.specs.declared.survey.Survey.{Survey}
+use Rattle.ports.specs.Survey.{holdsIn, surveyOf}
+use Rattle.ports.specs.Line.{lineOf}
 use Rattle.caches.proofs.Links.{column-link}
 use Rattle.find.proofs.Links.{holder-link}
 

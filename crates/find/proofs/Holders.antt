@@ -14,10 +14,10 @@ use Rattle.protocol.proofs.Bools.{Is}
 use Rattle.model.specs.declared.found.Found.the-variants.{Holder, Memory}
 use Rattle.model.specs.Below.{none, number, orElse, lowest}
 use Rattle.model.specs.Find.{holderOr}
-use Rattle.caches.specs.declared.line.Line.{Line}
-use Rattle.caches.specs.Line.{numberOf, seenIn}
-use Rattle.caches.specs.Survey.{holdsIn}
-use Rattle.caches.proofs.Surveys.{valid-here}
+use Rattle.ports.specs.declared.line.Line.{Line}
+use Rattle.ports.specs.Line.{numberOf, seenIn}
+use Rattle.ports.specs.Survey.{holdsIn}
+use Rattle.ports.proofs.Surveys.{valid-here}
 
 -- The loop's invariant: none of the first p of n passes.
 pub record Searching (f : ℕ → Bool) (n p : ℕ) : Type 0 where

@@ -13,9 +13,9 @@ use Rattle.model.specs.Tables.{Model, model, lentRefusal, seen, holds}
 use Rattle.model.proofs.Bounds.{bounded}
 use Rattle.model.proofs.Entries.{entry-lt}
 use Rattle.model.proofs.Lent.{Lent, lent-facts, some-sets}
-use Rattle.caches.specs.declared.line.Line.{Line}
-use Rattle.caches.specs.Line.{Sized, lineOf, numberOf, seenIn}
-use Rattle.caches.specs.Survey.{holdsIn}
+use Rattle.ports.specs.declared.line.Line.{Line}
+use Rattle.ports.specs.Line.{Sized, lineOf, numberOf, seenIn}
+use Rattle.ports.specs.Survey.{holdsIn}
 
 pub holder-link : (s : Shape) (t : Model) (a n : ℕ) → lowest (holdsIn (lineOf s a) (t .tags) (t .states)) n ≡ lowest (holds s t a) n
 unfolding seenIn lineOf seen

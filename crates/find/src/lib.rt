@@ -1,9 +1,9 @@
 // Where a line's word stands, and the view of that word.
-use caches::line;
-use caches::line::Line;
-use caches::survey;
 use model::found::Found;
 use model::shape::Shape;
+use ports::line;
+use ports::line::Line;
+use ports::survey;
 use protocol::state;
 ghost use mathlib.Core.Path.{_≡_};
 ghost use mathlib.Core.Bool.{true};
@@ -14,8 +14,8 @@ ghost use Rattle.model.specs.Shape.{inRange, entryOf};
 ghost use Rattle.model.specs.Below.{lowest};
 ghost use Rattle.model.specs.Tables.{model};
 ghost use Rattle.model.specs.Find.{holderOr, find, view};
-ghost use Rattle.caches.specs.Line.{Sized};
-ghost use Rattle.caches.specs.Survey.{holdsIn};
+ghost use Rattle.ports.specs.Line.{Sized};
+ghost use Rattle.ports.specs.Survey.{holdsIn};
 
 // The lowest-numbered port that holds the line, or memory.
 fn first_holder(tags: &[u32], states: &[u8], line: Line) -> Found

@@ -1,10 +1,10 @@
 -- What a shape in range bounds, and the limit of tags at an index. Assumes nothing.
-use Prim.Native.Nat.{ℕ, zero, suc, _+_, _*_, _-_, _/_, _%_, _<_, _≤_}
+use Prim.Native.Nat.{ℕ, zero, suc, _+_, _*_, _-_, _/_, _%_, _^_, _<_, _≤_}
 use mathlib.Core.Path.{_≡_, refl, sym, _∙_}
 use mathlib.Core.Bool.{Bool, true, false, _&&_, _||_}
 use mathlib.Core.Logic.{_≢_, _↔_}
 use native.Mathlib.Omega.{arith}
-use native.Mathlib.Nat.{mul-le-mul, div-le-self, div-lt-iff-lt-mul}
+use native.Mathlib.Nat.{mul-le-mul, div-le-self, div-lt-iff-lt-mul, div-add-mod'}
 use native.Mathlib.Decide.{decLt}
 use lib.Dec.{eqb, leb, ltb}
 use borrow.Author.Tests.{ne-eqb, eqb-true, leb-true, lt-ltb, le-ltb}
@@ -98,3 +98,11 @@ limit-is t n i x h =
       | no k ↦ (let d : (x + (n - 1) - i) / n < suc t = omega (arith, k) in
           let e : x ≤ t * n + i = limit-more t n i x h .0 (div-lt-iff-lt-mul pos .0 d) in absurd (omega (arith, e, l)))
     ]
+
+-- A number by a shift of k, and what is left, where 2 ^ k is n.
+module _ (a n k : ℕ) (e : 2 ^ k ≡ n) where
+  pub shifted-most : a / 2 ^ k * n ≤ a
+  shifted-most = rw e (omega (arith, div-add-mod' a n))
+
+  pub shifted-left : a - a / 2 ^ k * n ≡ a % n
+  shifted-left = rw e (omega (arith, div-add-mod' a n))

@@ -1,7 +1,7 @@
 // The shape of a model, with the sizes and limits that follow from it.
 ghost use mathlib.Core.Path.{_≡_};
 ghost use mathlib.Core.Bool.{true};
-ghost use Prim.Native.Nat.{_<_, _+_, _-_, _/_, _%_};
+ghost use Prim.Native.Nat.{_<_, _≤_, _+_, _-_, _/_, _%_, _^_};
 ghost use Rattle.model.specs.Shape.{isSets, inRange, entries, fits, refusalOf, placeOf};
 
 // How many ports there are, how many sets each port's direct-mapped cache has, and how many lines main memory has. (Document 01's word
@@ -30,6 +30,7 @@ struct Split {
 impl Shape {
     pub const MAX_PORTS: usize = 8;
 
+    // The sets are 1, 2, 4, 8, 16, 32 or this many.
     pub const MAX_SETS: usize = 64;
 
     pub const MAX_LINES: usize = 4096;
@@ -39,7 +40,16 @@ impl Shape {
         ensures { λ r. ⌜ r ≡ isSets (self .sets) ⌝ }
     {
         let n = self.sets;
-        (n == 1) | (n == 2) | (n == 4) | (n == 8) | (n == 16) | (n == 32) | (n == Shape::MAX_SETS)
+        match n {
+            1 => true,
+            2 => true,
+            4 => true,
+            8 => true,
+            16 => true,
+            32 => true,
+            64 => true,
+            _ => false,
+        }
     }
 
     // Every number is in its range.
@@ -81,49 +91,37 @@ impl Shape {
         2
     }
 
-    // By one of seven shifts: no division on the way of a step.
+    // The sets as a power of two.
+    fn shift(self) -> usize
+        requires { ⌜ inRange self ≡ true ⌝ }
+        ensures { λ r. ⌜ (2 ^ r ≡ self .sets) × (r ≤ 6) ⌝ }
+    {
+        let n = self.sets;
+        match n {
+            1 => 0,
+            2 => 1,
+            4 => 2,
+            8 => 3,
+            16 => 4,
+            32 => 5,
+            _ => 6,
+        }
+    }
+
+    // By shifts: no division on the way of a step.
     fn split(self, a: usize) -> Split
         requires { ⌜ (inRange self ≡ true) × (a < self .lines) ⌝ }
         ensures { λ r. ⌜ ((r .index ≡ a % self .sets) × (r .tag ≡ a / self .sets)) × (r .limit ≡ (self .lines + (self .sets - 1) - a % self .sets) / self .sets) ⌝ }
     {
         let n = self.sets;
         let lines = self.lines;
-        match n {
-            1 => Split {
-                index: a % 1,
-                tag: a / 1,
-                limit: (lines + 0 - a % 1) / 1,
-            },
-            2 => Split {
-                index: a % 2,
-                tag: a / 2,
-                limit: (lines + 1 - a % 2) / 2,
-            },
-            4 => Split {
-                index: a % 4,
-                tag: a / 4,
-                limit: (lines + 3 - a % 4) / 4,
-            },
-            8 => Split {
-                index: a % 8,
-                tag: a / 8,
-                limit: (lines + 7 - a % 8) / 8,
-            },
-            16 => Split {
-                index: a % 16,
-                tag: a / 16,
-                limit: (lines + 15 - a % 16) / 16,
-            },
-            32 => Split {
-                index: a % 32,
-                tag: a / 32,
-                limit: (lines + 31 - a % 32) / 32,
-            },
-            _ => Split {
-                index: a % 64,
-                tag: a / 64,
-                limit: (lines + 63 - a % 64) / 64,
-            },
+        let k = self.shift();
+        let tag = a >> k;
+        let index = a - tag * n;
+        Split {
+            index,
+            tag,
+            limit: (lines + (n - 1) - index) >> k,
         }
     }
 

@@ -3,7 +3,6 @@
 // stdout.
 use model::found::Found;
 use model::shape::Shape;
-use step::order;
 
 fn put(n: u64) {
     io::print_decimal(1, n);
@@ -46,7 +45,7 @@ fn show(
     w: u64,
     x: u64,
 ) {
-    let r = order::step_order(shape, memory, tags, states, data, w, x);
+    let r = step::step_order(shape, memory, tags, states, data, w, x);
     put(place);
     put(r.refusal);
     put(r.value);
@@ -132,7 +131,7 @@ fn main() {
         sets: 1,
         lines: 2,
     };
-    step::fresh::make_fresh(s, &memory, &mut tags, &mut states, &mut data);
+    fresh::make_fresh(s, &memory, &mut tags, &mut states, &mut data);
 
     // Kind, mode, port, mask, line and compare value in the word, as the scope lists them.
     let fourteen = [

@@ -1,3 +1,2 @@
--- Laws of the step and of fresh, that several proofs cite.
-pub mod Clearing
+-- Laws of the step, that several proofs cite.
 pub mod Orders

@@ -27,16 +27,16 @@ use Rattle.model.proofs.Lent.{lent-facts, some-sets}
 use Rattle.model.proofs.Bounds.{bounded}
 use Rattle.model.proofs.Entries as entry
 use Rattle.model.proofs.Decoded.{Sound, decode-sound}
-use Rattle.caches.specs.declared.line.Line.{Line}
+use Rattle.ports.specs.declared.line.Line.{Line}
 use Rattle.caches.specs.declared.access.Outcome.{Outcome}
 use Rattle.caches.specs.declared.access.Accessed.{Accessed}
 use Rattle.caches.specs.declared.access.Accessed.the-variants.{Unsound, Done}
 use Rattle.caches.specs.declared.access.Flushed.{Flushed}
 use Rattle.caches.specs.declared.access.Flushed.the-variants as flushes
-use Rattle.caches.specs.Line.{Tables, Sized, lineOf}
+use Rattle.ports.specs.Line.{Tables, Sized, lineOf}
 use Rattle.caches.specs.Access.{columnIn, outcomeIn, accessIn, accessTables, flushIn, flushTables, seenBy, wordBy}
 use Rattle.caches.proofs.Links.{tablesOf, column-link, home-there, outcomeOf, access-link, flushStores, flush-link}
-use Rattle.step.specs.Order.{There, refusalIn}
+use Rattle.decode.specs.Order.{There, refusalIn}
 
 -- A home line fits: a tag of 32 bits, at most 64 sets.
 pub home-fits : (x n i : ℕ) → x < 2 ^ 32 → n ≤ 64 → i < n → x * n + i < 2 ^ 40

@@ -1,7 +1,7 @@
 -- The loop keeps what the ports passed say. Assumes nothing.
 use Prim.Native.Nat.{_-_}
 use native.Mathlib.Omega.{arith}
-use Rattle.caches.specs.Line.{tables}
+use Rattle.ports.specs.Line.{tables}
 use Rattle.audit.proofs.Places.{in-tables}
 use Rattle.audit.proofs.Holding.{Holding, holding-none, holding-more, holding-done}
 use Rattle.audit.proofs.ask_holders.Statement.{statement}

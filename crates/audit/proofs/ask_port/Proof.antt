@@ -1,7 +1,7 @@
 -- `ask_port` is `asked`: the entry is of another line, or I, or holds the line. Assumes nothing.
 use borrow.Author.Needs.{needs}
 use denote.Ref.{now}
-use Rattle.caches.specs.Line.{tables}
+use Rattle.ports.specs.Line.{tables}
 use Rattle.audit.proofs.Holding.{asked-away, asked-free, asked-held}
 use Rattle.audit.proofs.ask_port.Statement.{statement}
 use Rattle.audit.proofs.ask_port.Tie as tie

@@ -1,6 +1,6 @@
 -- `held_at` is `heldAt`: one read of each table, and one look at the byte. Assumes nothing.
 use borrow.Author.Needs.{needs}
-use Rattle.caches.specs.Line.{entryAt}
+use Rattle.ports.specs.Line.{entryAt}
 use Rattle.audit.specs.Entries.{heldAt}
 use Rattle.audit.proofs.held_at.Statement.{statement}
 use Rattle.audit.proofs.held_at.Tie as tie

@@ -2,8 +2,8 @@
 use borrow.Author.Needs.{needs}
 use Prim.Native.Nat.{_-_}
 use native.Mathlib.Omega.{arith}
-use Rattle.caches.specs.Survey.{holdsIn}
-use Rattle.caches.proofs.Places.{in-one, in-two}
+use Rattle.ports.specs.Survey.{holdsIn}
+use Rattle.ports.proofs.Places.{in-one, in-two}
 use Rattle.find.proofs.Holders.{Searching, searching-none, searching-found, searching-more, searching-done}
 use Rattle.find.proofs.first_holder.Statement.{statement}
 use Rattle.find.proofs.first_holder.Tie as tie

@@ -1,8 +1,8 @@
 -- One survey; then the decision, the answers and the own entry. Assumes nothing.
 use borrow.Author.Needs.{needs}
 use native.Mathlib.Omega.{arith}
-use Rattle.caches.proofs.Places.{in-one}
-use Rattle.caches.proofs.Answers.{within, within-kept}
+use Rattle.ports.proofs.Places.{in-one}
+use Rattle.ports.proofs.Answers.{within, within-kept}
 use Rattle.caches.proofs.Decided.{unsound, entry-state, first-there, done}
 use Rattle.caches.proofs.access.access_line.Statement.{statement}
 use Rattle.caches.proofs.access.access_line.Tie as tie

@@ -1,8 +1,8 @@
 -- One survey; then the own entry is emptied if it holds the line. Assumes nothing.
 use borrow.Author.Needs.{needs}
 use native.Mathlib.Omega.{arith}
-use Rattle.caches.proofs.Places.{in-one, in-two}
-use Rattle.caches.proofs.Answers.{within}
+use Rattle.ports.proofs.Places.{in-one, in-two}
+use Rattle.ports.proofs.Answers.{within}
 use Rattle.caches.proofs.Decided.{flush-unsound, flush-away, flush-held}
 use Rattle.caches.proofs.access.flush_line.Statement.{statement}
 use Rattle.caches.proofs.access.flush_line.Tie as tie

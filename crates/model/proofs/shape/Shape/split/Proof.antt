@@ -1,75 +1,38 @@
--- Each arm has the sets that it is for. Assumes nothing.
+-- The tag by a shift, the index by what is left. Assumes nothing.
 use borrow.Author.Needs.{needs}
-use mathlib.Core.Path.{refl}
 use native.Mathlib.Omega.{arith}
-use Rattle.model.proofs.Bounds.{bounded, sets-last}
+use Rattle.model.proofs.Lent.{some-sets}
+use Rattle.model.proofs.Bounds.{bounded, shifted-most, shifted-left}
 use Rattle.model.proofs.shape.Shape.split.Statement.{statement}
 use Rattle.model.proofs.shape.Shape.split.Tie as tie
 
-add-t14 : tie.Need-add-t14
-add-t14 c = omega (arith, bounded (c .before .args .self) (c .before .pre .0) .lines)
+mul-index : tie.Need-mul-index
+mul-index c = omega (arith, shifted-most (c .before .args .a) (c .before .args .self .sets) (c .shift .result) (c .shift .ensures .0), (c .before .fits .a))
 
-add-t20 : tie.Need-add-t20
-add-t20 c = omega (arith, bounded (c .before .args .self) (c .before .pre .0) .lines)
+sub-index : tie.Need-sub-index
+sub-index c = shifted-most (c .before .args .a) (c .before .args .self .sets) (c .shift .result) (c .shift .ensures .0)
 
-add-t26 : tie.Need-add-t26
-add-t26 c = omega (arith, bounded (c .before .args .self) (c .before .pre .0) .lines)
+sub-t8 : tie.Need-sub-t8
+sub-t8 c = some-sets (c .before .args .self) (c .before .pre .0)
 
-add-t32 : tie.Need-add-t32
-add-t32 c = omega (arith, bounded (c .before .args .self) (c .before .pre .0) .lines)
-
-add-t38 : tie.Need-add-t38
-add-t38 c = omega (arith, bounded (c .before .args .self) (c .before .pre .0) .lines)
-
-add-t44 : tie.Need-add-t44
-add-t44 c = omega (arith, bounded (c .before .args .self) (c .before .pre .0) .lines)
+add-t9 : tie.Need-add-t9
+add-t9 c = omega (arith, (bounded (c .before .args .self) (c .before .pre .0)) .lines, (bounded (c .before .args .self) (c .before .pre .0)) .sets-most)
 
 returns : tie.Need-returns
-returns c = rw (c .match .keys1) ((refl, refl), refl)
-
-returns-2 : tie.Need-returns-2
-returns-2 c = rw (c .match .keys2) ((refl, refl), refl)
-
-returns-3 : tie.Need-returns-3
-returns-3 c = rw (c .match .keys3) ((refl, refl), refl)
-
-returns-4 : tie.Need-returns-4
-returns-4 c = rw (c .match .keys4) ((refl, refl), refl)
-
-returns-5 : tie.Need-returns-5
-returns-5 c = rw (c .match .keys5) ((refl, refl), refl)
-
-returns-6 : tie.Need-returns-6
-returns-6 c = rw (c .match .keys6) ((refl, refl), refl)
-
-returns-7 : tie.Need-returns-7
-returns-7 c =
-    let r = c .match .rest in
-    let e = sets-last _ (bounded (c .before .args .self) (c .before .pre .0) .sets) (r .0 .0 .0 .0 .0 .1) (r .0 .0 .0 .0 .1) (r .0 .0 .0 .1) (r .0 .0 .1) (r .0 .1) (r .1) in
-    rw e ((refl, refl), refl)
+returns c =
+    let e = shifted-left (c .before .args .a) (c .before .args .self .sets) (c .shift .result) (c .shift .ensures .0) in
+    ((e, rw (c .shift .ensures .0)), rw (e, (c .shift .ensures .0)))
 
 pub split-spec : {M : Type 1} → statement M
 split-spec =
     tie.close
     (tie.spec
+    (λ c κs. search needs)
+    (λ c. search needs)
+    mul-index
+    sub-index
+    sub-t8
+    add-t9
     (λ c. search needs)
     (λ c. search needs)
-    add-t14
-    (λ c. search needs)
-    add-t20
-    (λ c. search needs)
-    add-t26
-    (λ c. search needs)
-    add-t32
-    (λ c. search needs)
-    add-t38
-    (λ c. search needs)
-    add-t44
-    (λ c. search needs)
-    returns
-    returns-2
-    returns-3
-    returns-4
-    returns-5
-    returns-6
-    returns-7)
+    returns)

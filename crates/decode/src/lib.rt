@@ -1,0 +1,79 @@
+// An order word taken apart, once.
+use model::order::Call;
+use model::order::Decoded;
+use model::shape::Shape;
+use protocol::access::Access;
+use protocol::state::Mode;
+ghost use mathlib.Core.Path.{_≡_};
+ghost use Rattle.model.specs.Order.{modeIn, checked, callOf, decode};
+ghost use Rattle.decode.specs.Order.{order, refusalIn};
+
+fn mode_in(w: u64) -> Mode
+    ensures { λ r. ⌜ r ≡ modeIn w ⌝ }
+{
+    if w / 8 % 2 == 1 {
+        Mode::Back
+    } else {
+        Mode::Through
+    }
+}
+
+fn call_of(kind: u64, m: Mode, port: usize, mask: u8, line: usize, compare: u64, x: u64) -> Call
+    ensures { λ r. ⌜ r ≡ callOf kind m port mask line compare x ⌝ }
+{
+    if kind == 0 {
+        return Call::ByPort(Access::Read, m, port, line);
+    }
+    if kind == 1 {
+        return Call::ByPort(Access::Write(mask, x), m, port, line);
+    }
+    if kind == 2 {
+        return Call::ByPort(Access::Swap(mask, compare, x), m, port, line);
+    }
+    if kind == 3 {
+        return Call::Flush(port, line);
+    }
+    Call::DeviceRead(line)
+}
+
+// Refusals 4 to 7, in checking order, else the call.
+fn checked_call(shape: Shape, kind: u64, port: usize, mask: u8, line: usize, call: Call) -> Decoded
+    ensures { λ r. ⌜ r ≡ checked shape kind port mask line call ⌝ }
+{
+    if 5 <= kind {
+        return Decoded::Refused(4);
+    }
+    if (kind < 4) & (shape.ports <= port) {
+        return Decoded::Refused(5);
+    }
+    if shape.lines <= line {
+        return Decoded::Refused(6);
+    }
+    if (kind == 2) & !((mask == 0x0F) | (mask == 0xF0)) {
+        return Decoded::Refused(7);
+    }
+    Decoded::Asked(call)
+}
+
+// The fields of the word: 0-2 kind, 3 mode, 4-7 port, 8-15 byte mask, 16-31 line, 32-63 compare value.
+pub fn decode_order(shape: Shape, w: u64, x: u64) -> Decoded
+    ensures { λ r. ⌜ r ≡ decode shape (order w x) ⌝ }
+{
+    let kind = w / 1 % 8;
+    let port = (w / 16 % 16) as usize;
+    let mask = (w / 256 % 256) as u8;
+    let line = (w / 65536 % 65536) as usize;
+    let compare = w / 4294967296 % 4294967296;
+    let call = call_of(kind, mode_in(w), port, mask, line, compare, x);
+    checked_call(shape, kind, port, mask, line, call)
+}
+
+// The refusal of an order word that asks nothing.
+pub fn refusal_of(d: Decoded) -> u64
+    ensures { λ r. ⌜ r ≡ refusalIn d ⌝ }
+{
+    match d {
+        Decoded::Asked(_) => 0,
+        Decoded::Refused(n) => n,
+    }
+}

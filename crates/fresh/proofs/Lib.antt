@@ -1,0 +1,2 @@
+-- Laws of clearing a table, that several proofs cite.
+pub mod Clearing

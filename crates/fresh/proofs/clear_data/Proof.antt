@@ -1,0 +1,52 @@
+-- The loop keeps zeros below k. Assumes nothing.
+use Prim.Native.Nat.{_-_}
+use native.Mathlib.Omega.{arith}
+use lib.ListN.{length}
+use Rattle.fresh.proofs.Clearing.{Clearing, clearing-none, clearing-more, clearing-done}
+use Rattle.fresh.proofs.clear_data.Statement.{statement}
+use Rattle.fresh.proofs.clear_data.Tie as tie
+
+abbrev Inv-loop : tie.InvT-loop
+Inv-loop data₀ k₀ «data» k = Clearing data₀ «data» k
+
+abbrev μ-loop : tie.MeasureT-loop
+μ-loop data₀ k₀ «data» k = length data₀ - k
+
+loop-holds : tie.Need-loop-holds Inv-loop μ-loop
+loop-holds c = clearing-none _
+
+mul-data : tie.Need-mul-data Inv-loop μ-loop
+mul-data c = omega arith
+
+slice-write-data : tie.Need-slice-write-data Inv-loop μ-loop
+slice-write-data c = c .loop-test .taken
+
+add-k : tie.Need-add-k Inv-loop μ-loop
+add-k c = omega arith
+
+loop-less : tie.Need-loop-less Inv-loop μ-loop
+loop-less c = omega arith
+
+loop-again : tie.Need-loop-again Inv-loop μ-loop
+loop-again c = search clearing-more
+
+same-length : tie.Need-same-length Inv-loop μ-loop
+same-length c = c .before .loop .inv .same
+
+returns : tie.Need-returns Inv-loop μ-loop
+returns c = search clearing-done
+
+pub clear-data-spec : {M : Type 1} → statement M
+clear-data-spec =
+    tie.close
+    (tie.spec
+    Inv-loop
+    μ-loop
+    loop-holds
+    mul-data
+    slice-write-data
+    add-k
+    loop-less
+    loop-again
+    same-length
+    returns)

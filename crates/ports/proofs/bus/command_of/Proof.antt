@@ -1,0 +1,17 @@
+-- `command_of` is `commandOf`. Assumes nothing.
+use borrow.Author.Needs.{needs}
+use Rattle.ports.specs.Bus.{commandOf}
+use Rattle.ports.proofs.bus.command_of.Statement.{statement}
+use Rattle.ports.proofs.bus.command_of.Tie as tie
+
+returns : tie.Need-returns
+unfolding commandOf
+returns c = rw (c .hands-word .ensures, c .before .snoop-row .ensures)
+
+pub command-of-spec : {M : Type 1} → statement M
+command-of-spec =
+    tie.close
+    (tie.spec
+    (λ c κs. search needs)
+    (λ c κs. search needs)
+    returns)

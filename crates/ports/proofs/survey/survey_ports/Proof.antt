@@ -1,0 +1,54 @@
+-- The loop keeps the survey of the ports passed. Assumes nothing.
+use borrow.Author.Needs.{needs}
+use Prim.Native.Nat.{_-_}
+use native.Mathlib.Omega.{arith}
+use Rattle.ports.proofs.Places.{in-one, in-two}
+use Rattle.ports.proofs.Surveys.{Surveying, surveying-none, surveying-more, surveying-done}
+use Rattle.ports.proofs.survey.survey_ports.Statement.{statement}
+use Rattle.ports.proofs.survey.survey_ports.Tie as tie
+
+abbrev Inv-loop : tie.InvT-loop
+Inv-loop tags states line i ports sets s₀ p₀ s p = Surveying line tags states i s p
+
+abbrev μ-loop : tie.MeasureT-loop
+μ-loop tags states line i ports sets s₀ p₀ s p = ports - p
+
+loop-holds : tie.Need-loop-holds Inv-loop μ-loop
+loop-holds c = surveying-none _ _ _ _
+
+mul-k : tie.Need-mul-k Inv-loop μ-loop
+mul-k c = omega (arith, in-one (c .before .before .before .before .pre) (c .before .loop .p) (c .loop-test .taken))
+
+add-k : tie.Need-add-k Inv-loop μ-loop
+add-k c = omega (arith, in-one (c .before .before .before .before .before .pre) (c .before .before .loop .p) (c .before .loop-test .taken))
+
+look-entry-requires : tie.Need-look-entry-requires Inv-loop μ-loop
+look-entry-requires c κs = (in-one (c .before .before .before .before .before .pre) (c .before .before .loop .p) (c .before .loop-test .taken), in-two (c .before .before .before .before .before .pre) (c .before .before .loop .p) (c .before .loop-test .taken))
+
+add-p : tie.Need-add-p Inv-loop μ-loop
+add-p c = omega (arith, c .before .before .before .loop-test .taken)
+
+loop-less : tie.Need-loop-less Inv-loop μ-loop
+loop-less c = omega (arith, c .before .before .before .loop-test .taken)
+
+loop-again : tie.Need-loop-again Inv-loop μ-loop
+loop-again c = surveying-more _ _ _ _ (c .before .before .before .before .loop .inv) (c .before .before .before .loop-test .taken) (c .before .look-entry .ensures) (c .note .ensures)
+
+returns : tie.Need-returns Inv-loop μ-loop
+returns c = surveying-done (c .before .loop .inv) (c .loop-test .left)
+
+pub survey-ports-spec : {M : Type 1} → statement M
+survey-ports-spec =
+    tie.close
+    (tie.spec
+    Inv-loop
+    μ-loop
+    loop-holds
+    mul-k
+    add-k
+    look-entry-requires
+    (λ c κs. search needs)
+    add-p
+    loop-less
+    loop-again
+    returns)

@@ -1,0 +1,38 @@
+-- One flush on the tables, then at most one store. Assumes nothing.
+use borrow.Author.Needs.{needs}
+use Rattle.model.proofs.Lent.{lent-facts}
+use Rattle.step.proofs.Orders.{in-memory, line-sized, line-sized-words, port-there, flush-refused, flush-done}
+use Rattle.step.proofs.flush_order.Statement.{statement}
+use Rattle.step.proofs.flush_order.Tie as tie
+
+line-of-requires : tie.Need-line-of-requires
+line-of-requires c κs = (lent-facts _ _ (c .before .before .before .before .pre .0) .range, c .before .before .before .before .pre .1 .1)
+
+flush-line-requires : tie.Need-flush-line-requires
+flush-line-requires c κs = (line-sized _ _ (c .before .before .before .before .before .before .pre .0) (c .before .before .before .before .before .before .args .a) (c .before .line-of .ensures), (line-sized-words _ _ (c .before .before .before .before .before .before .pre .0) (c .before .before .before .before .before .before .args .a) (c .before .line-of .ensures), port-there _ _ (c .before .before .before .before .before .before .pre .0) (c .before .before .before .before .before .before .args .i) (c .before .before .before .before .before .before .args .a) (c .before .line-of .ensures) (c .before .before .before .before .before .before .pre .1 .0)))
+
+returns : tie.Need-returns
+returns c = flush-refused _ _ (c .before .before .before .before .before .before .before .before .before .before .before .before .pre .0) _ _ (c .before .before .before .before .before .before .before .before .before .before .before .before .pre .1 .0) (c .before .before .before .before .before .before .before .before .before .before .before .before .pre .1 .1) (c .before .before .before .before .before .before .before .line-of .ensures) (c .before .before .before .before .before .flush-line .ensures .0) (c .before .enum-told .given .1) (c .before .before .before .before .before .flush-line .ensures .1) (c .refuse .ensures)
+
+store-if-requires : tie.Need-store-if-requires
+store-if-requires c κs = λ _. in-memory _ _ (c .before .before .before .before .before .before .before .before .before .before .before .before .before .pre .0) (c .before .before .before .before .before .before .before .before .before .before .before .before .before .args .a) (c .before .before .before .before .before .before .before .before .before .before .before .before .before .pre .1 .1)
+
+returns-2 : tie.Need-returns-2
+returns-2 c = flush-done _ _ (c .before .before .before .before .before .before .before .before .before .before .before .before .before .before .before .before .before .pre .0) _ _ (c .before .before .before .before .before .before .before .before .before .before .before .before .before .before .before .before .before .pre .1 .0) (c .before .before .before .before .before .before .before .before .before .before .before .before .before .before .before .before .before .pre .1 .1) (c .before .before .before .before .before .before .before .before .before .before .before .before .line-of .ensures) (c .before .before .before .before .before .before .before .before .before .before .flush-line .ensures .0) (c .before .before .before .before .before .before .done .given .1) (c .before .before .before .before .before .before .before .before .before .before .flush-line .ensures .1) (c .before .before .before .store-if .ensures) (c .number .ensures .0)
+
+pub flush-order-spec : {M : Type 1} → statement M
+flush-order-spec =
+    tie.close
+    (tie.spec
+    line-of-requires
+    flush-line-requires
+    (λ c. search needs)
+    (λ c. search needs)
+    (λ c κs. search needs)
+    (λ c. search needs)
+    returns
+    store-if-requires
+    (λ c κs. search needs)
+    (λ c. search needs)
+    (λ c. search needs)
+    returns-2)
