@@ -1,0 +1,18 @@
+-- Eight bytes of a number, stored by fours. Assumes nothing.
+use borrow.Author.Needs.{needs}
+use Rattle.endian.proofs.Little.{eight-stored}
+use Rattle.endian.proofs.write_eight.Statement.{statement}
+use Rattle.endian.proofs.write_eight.Tie as tie
+
+returns : tie.Need-returns
+returns c = eight-stored _ _ _ (c .before .before .before .before .before .before .write-four .ensures) (c .before .before .write-four2 .ensures)
+
+pub write-eight-spec : {M : Type 1} → statement M
+write-eight-spec =
+    tie.close
+    (tie.spec
+    (λ c κs. search needs)
+    (λ c. search needs)
+    (λ c κs. search needs)
+    (λ c. search needs)
+    returns)

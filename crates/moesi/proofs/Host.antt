@@ -1,0 +1,208 @@
+-- The bytes of a host against the model that they hold. Assumes nothing.
+use Prim.Native.Nat.{ℕ, zero, suc, _+_, _*_, _^_, _<_, _≤_}
+use mathlib.Core.Path.{_≡_, refl, sym, ap, _∙_}
+use mathlib.Core.Logic.{_≢_}
+use mathlib.Core.Bool.{Bool, true, false, cond, _&&_}
+use mathlib.Core.List.{List, [], _∷_}
+use native.Mathlib.Omega.{arith}
+use native.Mathlib.Nat.{mod-lt, mul-zero, mul-suc, add-comm}
+use lib.Dec.{eqb}
+use lib.ListN.{getD, set, length, replicate, replicate-append-replicate}
+use lib.Seq.{sets, length-sets}
+use borrow.Author.Tests.{eq-eqb, ne-eqb, eqb-true}
+use Rattle.protocol.proofs.Bools.{Is, and-l, and-r, by-cond}
+use Rattle.endian.specs.Little.{numbers, bytesOf, encoded}
+use Rattle.endian.proofs.Little.{get-numbers, length-numbers, set-numbers, same-bytes}
+use Rattle.model.specs.declared.shape.Shape.{Shape}
+use Rattle.model.specs.declared.answer.Answer.{Answer}
+use Rattle.model.specs.Shape.{inRange, entries}
+use Rattle.model.specs.Order.{Order}
+use Rattle.model.specs.Tables.{Model, lentRefusal, memoryAt}
+use Rattle.model.specs.Step.{result, refused, store, step}
+use Rattle.model.specs.Fresh.{fresh, zeroed}
+use Rattle.model.specs.Audit.{audit, tablesPass}
+use Rattle.packed_audit.specs.Fitting as audited
+use Rattle.protocol.specs.Bools.{bit}
+use Rattle.model.proofs.Lent.{facts-lent, some-sets}
+use Rattle.ports.specs.declared.line.Line.{Line}
+use Rattle.ports.specs.Line.{lineOf}
+use Rattle.packed.specs.Packed.{Packed, wordIn}
+use Rattle.moesi.specs.Host.{Bytes, bytes, modelIn, inBytes, bytesFit, Fitting, refusalBy, hostRefusal, answerBytes, hosted, hostStep, hostFresh, hostAudit}
+
+-- A store in memory's bytes is a store in its words.
+pub stored : (n : ℕ) (m : List ℕ) {m' : List ℕ} {on : Bool} {k w : ℕ} → on ≡ true → length m ≡ 8 * n → k < n → w < 2 ^ 64 → m' ≡ sets m (8 * k) (bytesOf 8 w)
+    → numbers 8 n m' ≡ store on k w (numbers 8 n m)
+stored n m {k = k} {w = w} o l q f e = rw (o, e) (set-numbers 8 n k w m q (omega arith) (omega (arith, l)))
+
+module _ {s : Shape} {b : Bytes} (f : Fitting s b) where
+  -- The model that fitting bytes hold is accepted.
+  pub lent : lentRefusal s (modelIn s b) ≡ 0
+  unfolding modelIn
+  lent = facts-lent s (modelIn s b) (record { range = f .range; sizes = record { memory = length-numbers 8 (s .lines) (b .memory); tags = length-numbers 4 (entries s) (b .tags); states = f .states-fit; words = length-numbers 8 (entries s) (b .words) } })
+
+  -- The tables of a line are packed in the bytes.
+  pub packed : (a : ℕ) {l : Line} → l ≡ lineOf s a → Packed l (b .tags) (b .states) (b .words)
+  unfolding lineOf
+  packed a e = rw e (record { tags-fit = f .tags-fit; states-fit = f .states-fit; words-fit = f .words-fit; index = mod-lt a (some-sets s (f .range)) })
+
+  pub in-memory : {a : ℕ} → a < s .lines → 8 * a + 8 ≤ length (b .memory)
+  in-memory h = omega (arith, f .memory-fits)
+
+  pub memory-word : {a : ℕ} → a < s .lines → {w : ℕ} → w ≡ wordIn (b .memory) a → w ≡ memoryAt (modelIn s b) a
+  unfolding modelIn
+  memory-word {a} h e = e ∙ sym (get-numbers 8 (s .lines) a (b .memory) h)
+
+  pub in-lines : {k : ℕ} → k < length (modelIn s b .memory) → k < s .lines
+  unfolding modelIn
+  in-lines h = rw (length-numbers 8 (s .lines) (b .memory)) at h
+
+-- Refusal 0: the slices fit the shape.
+module _ (s : Shape) (memory tags states words : ℕ) (out : Bool) where
+  abbrev fit : Bool
+  fit = bytesFit s memory tags states words
+
+  pub none-refused : Is (inRange s) → Is (fit && out) → 0 ≡ refusalBy s memory tags states words out
+  unfolding refusalBy
+  none-refused r h = rw (r, h)
+
+  pub length-refused : Is (inRange s) → (fit && out) ≡ false → 3 ≡ refusalBy s memory tags states words out
+  unfolding refusalBy
+  length-refused r h = rw (r, h)
+
+  pub shape-refused : inRange s ≡ false → 2 ≡ refusalBy s memory tags states words out
+  unfolding refusalBy
+  shape-refused h = rw h
+
+  accepted-all : refusalBy s memory tags states words out ≡ 0 → Is (inRange s) × Is (fit && out)
+  unfolding refusalBy
+  accepted-all =
+      by-cond (λ n. n ≡ 0 → Is (inRange s) × Is (fit && out)) (inRange s) (cond (fit && out) 0 3) 2
+      (λ r. by-cond (λ n. n ≡ 0 → Is (inRange s) × Is (fit && out)) (fit && out) 0 3 (λ h _. (r, h)) (λ _ e. absurd (omega (arith, e))))
+      (λ _ e. absurd (omega (arith, e)))
+
+pub out-fits : (s : Shape) (memory tags states words : ℕ) (out : Bool) {n : ℕ} → n ≡ refusalBy s memory tags states words out → n ≡ 0 → Is out
+out-fits s memory tags states words out e z = and-r (bytesFit s memory tags states words) out (accepted-all s memory tags states words out (sym e ∙ z) .1)
+
+pub fitting : (s : Shape) (b : Bytes) (out : Bool) → hostRefusal s b out ≡ 0 → Fitting s b
+unfolding bytesFit
+fitting s b out e =
+    let m = eqb (length (b .memory)) (8 * s .lines) in
+    let g = eqb (length (b .tags)) (4 * entries s) in
+    let h = eqb (length (b .states)) (entries s) in
+    let d = eqb (length (b .words)) (8 * entries s) in
+    let f = accepted-all s (length (b .memory)) (length (b .tags)) (length (b .states)) (length (b .words)) out e in
+    let z : Is (m && g && h && d) = and-l (m && g && h && d) out (f .1) in
+    record {
+      range = f .0;
+      memory-fits = eqb-true _ _ (and-l m g (and-l (m && g) h (and-l (m && g && h) d z)));
+      tags-fit = eqb-true _ _ (and-r m g (and-l (m && g) h (and-l (m && g && h) d z)));
+      states-fit = eqb-true _ _ (and-r (m && g) h (and-l (m && g && h) d z));
+      words-fit = eqb-true _ _ (and-r (m && g && h) d z);
+    }
+
+refitted : {s : Shape} {b : Bytes} (b' : Bytes) → Fitting s b → length (b' .memory) ≡ length (b .memory) → length (b' .tags) ≡ length (b .tags) → length (b' .states) ≡ length (b .states)
+    → length (b' .words) ≡ length (b .words) → Fitting s b'
+refitted b' f em eg eh ed = record { range = f .range; memory-fits = em ∙ f .memory-fits; tags-fit = eg ∙ f .tags-fit; states-fit = eh ∙ f .states-fit; words-fit = ed ∙ f .words-fit }
+
+-- Every byte of a slice is below 256.
+abbrev pub AreBytes : List ℕ → Type 0
+AreBytes l = (k : ℕ) → getD l k 0 < 256
+
+-- Fitting bytes, read as a model and put in bytes again, are the same.
+same-lent : {s : Shape} {b : Bytes} → Fitting s b → AreBytes (b .memory) → AreBytes (b .tags) → AreBytes (b .words) → inBytes (modelIn s b) ≡ b
+unfolding inBytes modelIn
+same-lent {s} {b} f m g d =
+    rw (same-bytes 8 (s .lines) (b .memory) m (f .memory-fits), same-bytes 4 (entries s) (b .tags) g (f .tags-fit), same-bytes 8 (entries s) (b .words) d (f .words-fit))
+
+five-set : (x₀ x₁ x₂ x₃ x₄ : ℕ) (m : List ℕ) → set (set (set (set (set (numbers 8 5 m) 0 x₀) 1 x₁) 2 x₂) 3 x₃) 4 x₄ ≡ x₀ ∷ x₁ ∷ x₂ ∷ x₃ ∷ x₄ ∷ []
+unfolding numbers
+five-set x₀ x₁ x₂ x₃ x₄ m = refl
+
+-- The five numbers stored one after the other.
+pub answer-stored : (a : Answer) (l : List ℕ) → length l ≡ 40 → a .refusal < 2 ^ 64 → a .value < 2 ^ 64 → a .swapped < 2 ^ 64 → a .reads < 2 ^ 64 → a .writes < 2 ^ 64
+    → {l₁ l₂ l₃ l₄ l₅ : List ℕ} → l₁ ≡ sets l 0 (bytesOf 8 (a .refusal)) → l₂ ≡ sets l₁ 8 (bytesOf 8 (a .value)) → l₃ ≡ sets l₂ 16 (bytesOf 8 (a .swapped))
+    → l₄ ≡ sets l₃ 24 (bytesOf 8 (a .reads)) → l₅ ≡ sets l₄ 32 (bytesOf 8 (a .writes)) → AreBytes l₅ → l₅ ≡ answerBytes a
+unfolding answerBytes
+answer-stored a l n f₀ f₁ f₂ f₃ f₄ {l₁} {l₂} {l₃} {l₄} {l₅} e₁ e₂ e₃ e₄ e₅ b =
+    let s₀ = stored-at 0 l n (a .refusal) f₀ e₁ (omega arith) in
+    let s₁ = stored-at 1 l₁ (s₀ .0) (a .value) f₁ e₂ (omega arith) in
+    let s₂ = stored-at 2 l₂ (s₁ .0) (a .swapped) f₂ e₃ (omega arith) in
+    let s₃ = stored-at 3 l₃ (s₂ .0) (a .reads) f₃ e₄ (omega arith) in
+    let s₄ = stored-at 4 l₄ (s₃ .0) (a .writes) f₄ e₅ (omega arith) in
+    sym (same-bytes 8 5 l₅ b (s₄ .0))
+    ∙ ap (encoded 8) (s₄ .1 ∙ ap (λ (x : List ℕ). set x 4 (a .writes)) (s₃ .1 ∙ ap (λ (x : List ℕ). set x 3 (a .reads)) (s₂ .1 ∙ ap (λ (x : List ℕ). set x 2 (a .swapped)) (s₁ .1
+    ∙ ap (λ (x : List ℕ). set x 1 (a .value)) (s₀ .1)))) ∙ five-set (a .refusal) (a .value) (a .swapped) (a .reads) (a .writes) l)
+  where
+    stored-at : (k : ℕ) (m : List ℕ) → length m ≡ 40 → (x : ℕ) → x < 2 ^ 64 → {m' : List ℕ} → m' ≡ sets m (8 * k) (bytesOf 8 x) → k < 5 → (length m' ≡ 40) × (numbers 8 5 m' ≡ set (numbers 8 5 m) k x)
+    stored-at k m n x f e q = (ap length e ∙ length-sets m (8 * k) (bytesOf 8 x) ∙ n, rw e (set-numbers 8 5 k x m q (omega arith) (omega arith)))
+
+-- A call of step: accepted, refused with the answer written, refused with a slice of another length.
+module _ (s : Shape) (o : Order) (b : Bytes) (out : List ℕ) {n : ℕ} (en : n ≡ hostRefusal s b (eqb (length out) 40)) where
+  pub step-accepted : n ≡ 0 → {x : Answer} {b' : Bytes} {out' : List ℕ} → result x (modelIn s b') ≡ step s o (modelIn s b)
+      → length (b' .memory) ≡ length (b .memory) → length (b' .tags) ≡ length (b .tags) → length (b' .states) ≡ length (b .states) → length (b' .words) ≡ length (b .words)
+      → AreBytes (b' .memory) → AreBytes (b' .tags) → AreBytes (b' .words) → out' ≡ answerBytes x
+      → hosted (x .refusal) b' out' ≡ hostStep s o b out
+  unfolding hostStep
+  step-accepted z {b' = b'} e em eg eh ed m g d ea =
+      let f = refitted b' (fitting s b (eqb (length out) 40) (sym en ∙ z)) em eg eh ed in
+      rw (← en, eq-eqb n 0 z, ← e, same-lent f m g d, ea)
+
+  pub step-answered : n ≢ 0 → eqb (length out) 40 ≡ true → {out' : List ℕ} → out' ≡ answerBytes (refused n) → hosted n b out' ≡ hostStep s o b out
+  unfolding hostStep
+  step-answered h w f = rw (← en, ne-eqb n 0 h, w, f)
+
+  pub step-unanswered : n ≢ 0 → eqb (length out) 40 ≡ false → hosted n b out ≡ hostStep s o b out
+  unfolding hostStep
+  step-unanswered h w = rw (← en, ne-eqb n 0 h, w)
+
+-- Zeros in bytes.
+zero-bytes : (w : ℕ) → bytesOf w 0 ≡ replicate w 0
+unfolding bytesOf
+zero-bytes zero = refl
+zero-bytes (suc w) = ap (λ (l : List ℕ). 0 ∷ l) (zero-bytes w)
+
+encoded-zeros : (w n : ℕ) → encoded w (replicate n 0) ≡ replicate (w * n) 0
+unfolding encoded
+encoded-zeros w zero = rw (mul-zero w)
+encoded-zeros w (suc n) =
+    let e : w * suc n ≡ w + w * n = mul-suc w n ∙ add-comm (w * n) w in
+    rw (zero-bytes w, encoded-zeros w n, replicate-append-replicate {A = ℕ} w (w * n) 0, e)
+
+-- A call of fresh.
+module _ (s : Shape) (b : Bytes) {n : ℕ} (en : n ≡ hostRefusal s b true) where
+  pub fresh-accepted : n ≡ 0 → AreBytes (b .memory) → {g h d : List ℕ} → g ≡ replicate (length (b .tags)) 0 → h ≡ replicate (length (b .states)) 0 → d ≡ replicate (length (b .words)) 0
+      → hosted n (bytes (b .memory) g h d) [] ≡ hostFresh s b
+  unfolding hostFresh fresh zeroed modelIn inBytes
+  fresh-accepted z m eg eh ed =
+      let f = fitting s b true (sym en ∙ z) in
+      rw (← en, eq-eqb n 0 z, eq-eqb (lentRefusal s (modelIn s b)) 0 (lent f), eg, eh, ed, f .tags-fit, f .states-fit, f .words-fit, encoded-zeros 4 (entries s), encoded-zeros 8 (entries s), same-bytes 8 (s .lines) (b .memory) m (f .memory-fits))
+
+  pub fresh-refused : n ≢ 0 → hosted n b [] ≡ hostFresh s b
+  unfolding hostFresh
+  fresh-refused h = rw (← en, ne-eqb n 0 h)
+
+-- A call of the audit: accepted, refused with the verdict written, refused with a slice of another length.
+module _ (s : Shape) (b : Bytes) (out : List ℕ) {n : ℕ} (en : n ≡ hostRefusal s b (eqb (length out) 1)) where
+  only : (l : List ℕ) (v : ℕ) → length l ≡ 1 → set l 0 v ≡ v ∷ []
+  only [] v e = absurd (omega arith)
+  only (x ∷ []) v e = refl
+  only (x ∷ y ∷ l) v e = absurd (omega arith)
+
+  pub audit-fits : n ≡ 0 → audited.Fitting s (b .memory) (b .tags) (b .states) (b .words)
+  audit-fits z =
+      let f = fitting s b (eqb (length out) 1) (sym en ∙ z) in
+      record { range = f .range; memory-fits = f .memory-fits; filled = record { tags-fit = f .tags-fit; states-fit = f .states-fit; words-fit = f .words-fit } }
+
+  pub audit-accepted : n ≡ 0 → {p : Bool} {v : ℕ} → p ≡ tablesPass s (audited.modelIn s (b .memory) (b .tags) (b .states) (b .words)) → v ≡ bit p → hosted 0 b (set out 0 v) ≡ hostAudit s b out
+  unfolding hostAudit audit modelIn
+  audit-accepted z {p} {v} ep ev =
+      let o = out-fits s _ _ _ _ (eqb (length out) 1) en z in
+      rw (← en, eq-eqb n 0 z, o, eq-eqb (lentRefusal s (modelIn s b)) 0 (lent (fitting s b (eqb (length out) 1) (sym en ∙ z))), only out v (eqb-true _ _ o), ev, ep, z)
+
+  pub audit-refused : n ≢ 0 → eqb (length out) 1 ≡ true → hosted n b (set out 0 0) ≡ hostAudit s b out
+  unfolding hostAudit
+  audit-refused h o = rw (← en, ne-eqb n 0 h, o, only out 0 (eqb-true _ _ o))
+
+  pub audit-left : n ≢ 0 → eqb (length out) 1 ≡ false → hosted n b out ≡ hostAudit s b out
+  unfolding hostAudit
+  audit-left h o = rw (← en, o)

@@ -1,0 +1,87 @@
+-- The model as a C host lends it: main memory and the tables in little-endian bytes, the answer in 40 bytes, the verdict in one.
+use Prim.Native.Nat.{ℕ, _*_}
+use mathlib.Core.Path.{_≡_}
+use mathlib.Core.Bool.{Bool, true, cond, _&&_}
+use mathlib.Core.List.{List, [], _∷_}
+use lib.ListN.{length}
+use lib.Dec.{eqb}
+use Rattle.protocol.specs.Bools.{bit}
+use Rattle.endian.specs.Little.{encoded}
+use Rattle.packed_audit.specs.Fitting as held
+use Rattle.model.specs.declared.shape.Shape.{Shape}
+use Rattle.model.specs.declared.answer.Answer.{Answer}
+use Rattle.model.specs.Shape.{inRange, entries}
+use Rattle.model.specs.Order.{Order}
+use Rattle.model.specs.Tables.{Model}
+use Rattle.model.specs.Step.{refused, step}
+use Rattle.model.specs.Fresh.{fresh}
+use Rattle.model.specs.Audit.{audit}
+
+pub record Bytes : Type 0 where
+  pub memory : List ℕ
+  pub tags : List ℕ
+  pub states : List ℕ
+  pub words : List ℕ
+
+abbrev pub bytes : List ℕ → List ℕ → List ℕ → List ℕ → Bytes
+bytes m g h d = record { memory = m; tags = g; states = h; words = d }
+
+-- The model that the bytes hold: eight bytes for a word of memory or of the data table, four for a tag, one for a state.
+unfoldable pub modelIn : Shape → Bytes → Model
+modelIn s b = held.modelIn s (b .memory) (b .tags) (b .states) (b .words)
+
+-- A model in bytes.
+unfoldable pub inBytes : Model → Bytes
+inBytes t = bytes (encoded 8 (t .memory)) (encoded 4 (t .tags)) (t .states) (encoded 8 (t .words))
+
+-- Slices of these lengths have exactly the bytes of the entries that the shape gives.
+unfoldable pub bytesFit : Shape → ℕ → ℕ → ℕ → ℕ → Bool
+bytesFit s memory tags states words = eqb memory (8 * s .lines) && eqb tags (4 * entries s) && eqb states (entries s) && eqb words (8 * entries s)
+
+-- The shape is in its range, and the slices have its bytes.
+pub record Fitting (s : Shape) (b : Bytes) : Type 0 where
+  pub range : inRange s ≡ true
+  pub memory-fits : length (b .memory) ≡ 8 * s .lines
+  pub tags-fit : length (b .tags) ≡ 4 * entries s
+  pub states-fit : length (b .states) ≡ entries s
+  pub words-fit : length (b .words) ≡ 8 * entries s
+
+-- Refusal 2, a number of the shape outside its range; refusal 3, another length of a slice, the one that is written to (out) among them;
+-- else 0.
+unfoldable pub refusalBy : Shape → ℕ → ℕ → ℕ → ℕ → Bool → ℕ
+refusalBy s memory tags states words out = cond (inRange s) (cond (bytesFit s memory tags states words && out) 0 3) 2
+
+abbrev pub hostRefusal : Shape → Bytes → Bool → ℕ
+hostRefusal s b out = refusalBy s (length (b .memory)) (length (b .tags)) (length (b .states)) (length (b .words)) out
+
+-- The five numbers, 64 bits each.
+unfoldable pub answerBytes : Answer → List ℕ
+answerBytes a = encoded 8 (a .refusal ∷ a .value ∷ a .swapped ∷ a .reads ∷ a .writes ∷ [])
+
+-- What a call returns and leaves: its refusal, the lent bytes, and the slice that it writes to.
+pub record Hosted : Type 0 where
+  pub refusal : ℕ
+  pub lent : Bytes
+  pub out : List ℕ
+
+abbrev pub hosted : ℕ → Bytes → List ℕ → Hosted
+hosted n b out = record { refusal = n; lent = b; out = out }
+
+-- One order. A refusal changes no lent byte, and is written to the answer where that has its 40 bytes.
+unfoldable pub hostStep : Shape → Order → Bytes → List ℕ → Hosted
+hostStep s o b out =
+    let n = hostRefusal s b (eqb (length out) 40) in
+    let r = step s o (modelIn s b) in
+    cond (eqb n 0)
+    (hosted (r .answer .refusal) (inBytes (r .after)) (answerBytes (r .answer)))
+    (hosted n b (cond (eqb (length out) 40) (answerBytes (refused n)) out))
+
+-- Making a fresh model.
+unfoldable pub hostFresh : Shape → Bytes → Hosted
+hostFresh s b = let n = hostRefusal s b true in cond (eqb n 0) (hosted n (inBytes (fresh s (modelIn s b))) []) (hosted n b [])
+
+-- The audit: 1 for yes; a refused audit says no. A slice of another length than one byte is left alone.
+unfoldable pub hostAudit : Shape → Bytes → List ℕ → Hosted
+hostAudit s b out =
+    let n = hostRefusal s b (eqb (length out) 1) in
+    hosted n b (cond (eqb (length out) 1) (bit (eqb n 0 && audit s (modelIn s b)) ∷ []) out)

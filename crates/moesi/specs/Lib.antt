@@ -1,0 +1,2 @@
+-- What a C host sees of the model.
+pub mod Host

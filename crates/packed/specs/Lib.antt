@@ -1,0 +1,2 @@
+-- The three tables as little-endian bytes.
+pub mod Packed

@@ -1,0 +1,51 @@
+-- The loop goes on while the indices pass. Assumes nothing.
+use Prim.Native.Nat.{_-_}
+use native.Mathlib.Omega.{arith}
+use Rattle.audit.specs.Entries.{indexPasses, columnsPass}
+use Rattle.audit.proofs.Passing.{Passing, passing-none, passing-fails, passing-more, passing-done}
+use Rattle.packed_audit.specs.Fitting.{modelIn}
+use Rattle.packed_audit.proofs.columns_pass.Statement.{statement}
+use Rattle.packed_audit.proofs.columns_pass.Tie as tie
+
+abbrev Inv-loop : tie.InvT-loop
+Inv-loop shape memory tags states words sets x₀ x = Passing (indexPasses shape (modelIn shape memory tags states words)) (shape .sets) x
+
+abbrev μ-loop : tie.MeasureT-loop
+μ-loop shape memory tags states words sets x₀ x = sets - x
+
+loop-holds : tie.Need-loop-holds Inv-loop μ-loop
+loop-holds c = passing-none _ _
+
+index-passes-requires : tie.Need-index-passes-requires Inv-loop μ-loop
+index-passes-requires c κs = (c .before .before .before .before .before .before .pre, c .loop-test .taken)
+
+returns : tie.Need-returns Inv-loop μ-loop
+unfolding columnsPass
+returns c = passing-fails _ (c .before .before .before .loop .inv) (c .before .before .loop-test .taken) (c .before .index-passes .ensures) (c .if1 .taken)
+
+add-x : tie.Need-add-x Inv-loop μ-loop
+add-x c = omega (arith, c .before .before .loop-test .taken)
+
+loop-less : tie.Need-loop-less Inv-loop μ-loop
+loop-less c = omega (arith, c .before .before .loop-test .taken)
+
+loop-again : tie.Need-loop-again Inv-loop μ-loop
+loop-again c = passing-more _ (c .before .before .before .loop .inv) (c .before .before .loop-test .taken) (c .before .index-passes .ensures) (c .if1 .left)
+
+returns-2 : tie.Need-returns-2 Inv-loop μ-loop
+unfolding columnsPass
+returns-2 c = passing-done _ (c .before .loop .inv) (c .loop-test .left)
+
+pub columns-pass-spec : {M : Type 1} → statement M
+columns-pass-spec =
+    tie.close
+    (tie.spec
+    Inv-loop
+    μ-loop
+    loop-holds
+    index-passes-requires
+    returns
+    add-x
+    loop-less
+    loop-again
+    returns-2)

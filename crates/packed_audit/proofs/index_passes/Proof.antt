@@ -1,0 +1,51 @@
+-- The loop goes on while the ports' entries pass. Assumes nothing.
+use Prim.Native.Nat.{_-_}
+use native.Mathlib.Omega.{arith}
+use Rattle.audit.specs.Entries.{entryPasses, indexPasses}
+use Rattle.audit.proofs.Passing.{Passing, passing-none, passing-fails, passing-more, passing-done}
+use Rattle.packed_audit.specs.Fitting.{modelIn}
+use Rattle.packed_audit.proofs.index_passes.Statement.{statement}
+use Rattle.packed_audit.proofs.index_passes.Tie as tie
+
+abbrev Inv-loop : tie.InvT-loop
+Inv-loop shape memory tags states words x ports p₀ p = Passing (entryPasses shape (modelIn shape memory tags states words) x) (shape .ports) p
+
+abbrev μ-loop : tie.MeasureT-loop
+μ-loop shape memory tags states words x ports p₀ p = ports - p
+
+loop-holds : tie.Need-loop-holds Inv-loop μ-loop
+loop-holds c = passing-none _ _
+
+entry-passes-requires : tie.Need-entry-passes-requires Inv-loop μ-loop
+entry-passes-requires c κs = (c .before .before .before .before .before .before .pre .0, (c .before .before .before .before .before .before .pre .1, c .loop-test .taken))
+
+returns : tie.Need-returns Inv-loop μ-loop
+unfolding indexPasses
+returns c = passing-fails _ (c .before .before .before .loop .inv) (c .before .before .loop-test .taken) (c .before .entry-passes .ensures) (c .if1 .taken)
+
+add-p : tie.Need-add-p Inv-loop μ-loop
+add-p c = omega (arith, c .before .before .loop-test .taken)
+
+loop-less : tie.Need-loop-less Inv-loop μ-loop
+loop-less c = omega (arith, c .before .before .loop-test .taken)
+
+loop-again : tie.Need-loop-again Inv-loop μ-loop
+loop-again c = passing-more _ (c .before .before .before .loop .inv) (c .before .before .loop-test .taken) (c .before .entry-passes .ensures) (c .if1 .left)
+
+returns-2 : tie.Need-returns-2 Inv-loop μ-loop
+unfolding indexPasses
+returns-2 c = passing-done _ (c .before .loop .inv) (c .loop-test .left)
+
+pub index-passes-spec : {M : Type 1} → statement M
+index-passes-spec =
+    tie.close
+    (tie.spec
+    Inv-loop
+    μ-loop
+    loop-holds
+    entry-passes-requires
+    returns
+    add-p
+    loop-less
+    loop-again
+    returns-2)

@@ -1,0 +1,2 @@
+-- Main memory and the tables as little-endian bytes.
+pub mod Fitting
