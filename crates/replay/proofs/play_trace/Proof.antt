@@ -1,0 +1,34 @@
+-- Refused, or played. Assumes nothing.
+use borrow.Author.Needs.{needs}
+use native.Mathlib.Omega.{arith}
+use Rattle.replay.proofs.Refusing.{whole, whole-is}
+use Rattle.replay.proofs.Playing.{trace-refused, trace-played}
+use Rattle.replay.proofs.play_trace.Statement.{statement}
+use Rattle.replay.proofs.play_trace.Tie as tie
+
+returns : tie.Need-returns
+returns c = trace-refused _ _ (c .before .before .trace-refusal .ensures) (c .before .if1 .taken) (c .refuse .ensures)
+
+shape-in-requires : tie.Need-shape-in-requires
+shape-in-requires c κs = omega (arith, whole _ (c .before .trace-refusal .ensures) (c .if1 .left) .fits)
+
+orders-in-requires : tie.Need-orders-in-requires
+orders-in-requires c κs = omega (arith, whole _ (c .before .before .trace-refusal .ensures) (c .before .if1 .left) .fits)
+
+play-orders-requires : tie.Need-play-orders-requires
+play-orders-requires c κs = whole-is _ (c .before .before .before .before .trace-refusal .ensures) (c .before .before .before .if1 .left) (c .before .before .shape-in .ensures) (c .before .orders-in .ensures .0)
+
+returns-2 : tie.Need-returns-2
+returns-2 c = trace-played _ _ (c .before .before .before .before .before .trace-refusal .ensures) (c .before .before .before .before .if1 .left) (c .before .before .before .shape-in .ensures) (c .before .before .orders-in .ensures .0) (c .play-orders .ensures)
+
+pub play-trace-spec : {M : Type 1} → statement M
+play-trace-spec =
+    tie.close
+    (tie.spec
+    (λ c κs. search needs)
+    (λ c κs. search needs)
+    returns
+    shape-in-requires
+    orders-in-requires
+    play-orders-requires
+    returns-2)

@@ -1,0 +1,35 @@
+-- The tests of a trace, in checking order. Assumes nothing.
+use borrow.Author.Needs.{needs}
+use Rattle.replay.proofs.Refusing.{refused-short, refused-many, refused-misfit, refused-range}
+use Rattle.replay.proofs.trace_refusal.Statement.{statement}
+use Rattle.replay.proofs.trace_refusal.Tie as tie
+
+returns : tie.Need-returns
+returns c = refused-short _ (c .if1 .taken)
+
+returns-2 : tie.Need-returns-2
+returns-2 c = refused-many _ (c .before .before .if1 .left) (c .before .orders-in .ensures .0) (c .if2 .taken)
+
+returns-3 : tie.Need-returns-3
+returns-3 c = refused-misfit _ (c .before .before .before .if1 .left) (c .before .before .orders-in .ensures .0) (c .before .if2 .left) (c .if3 .taken)
+
+returns-4 : tie.Need-returns-4
+returns-4 c = rw (c .if4 .taken) at (refused-range _ (c .before .before .before .before .before .before .if1 .left) (c .before .before .before .before .before .orders-in .ensures .0) (c .before .before .before .before .if2 .left) (c .before .before .before .if3 .left) (c .before .before .shape-in .ensures) (c .before .is-in-range .ensures))
+
+returns-5 : tie.Need-returns-5
+returns-5 c = rw (c .if4 .left) at (refused-range _ (c .before .before .before .before .before .before .if1 .left) (c .before .before .before .before .before .orders-in .ensures .0) (c .before .before .before .before .if2 .left) (c .before .before .before .if3 .left) (c .before .before .shape-in .ensures) (c .before .is-in-range .ensures))
+
+pub trace-refusal-spec : {M : Type 1} → statement M
+trace-refusal-spec =
+    tie.close
+    (tie.spec
+    returns
+    (λ c κs. search needs)
+    returns-2
+    (λ c. search needs)
+    (λ c. search needs)
+    returns-3
+    (λ c κs. search needs)
+    (λ c κs. search needs)
+    returns-4
+    returns-5)
