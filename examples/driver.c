@@ -1,0 +1,95 @@
+/* A driver writer's question: after a port has filled a buffer, may a device read it, and what has to be done first? */
+
+#include "moesi.h"
+
+#include <inttypes.h>
+#include <stdio.h>
+#include <stdlib.h>
+
+/* Two ports with four sets each over sixteen lines; the buffer is eight lines of them. */
+enum { PORTS = 2, SETS = 4, LINES = 16, ENTRIES = PORTS * SETS, BUFFER = 4, BUFFER_LINES = 8 };
+
+static uint8_t memory[8 * LINES], tags[4 * ENTRIES], states[ENTRIES], data[8 * ENTRIES];
+
+/* Carries an order out. A refusal here means that the order was built wrongly. */
+static struct moesi_answer step(uint64_t word, uint64_t operand)
+{
+    uint8_t bytes[MOESI_ANSWER_BYTES];
+    uint64_t refusal = moesi_step(PORTS, SETS, LINES, word, operand, memory, sizeof memory, tags, sizeof tags, states,
+                                  sizeof states, data, sizeof data, bytes, sizeof bytes);
+
+    if (refusal != MOESI_ACCEPTED) {
+        fprintf(stderr, "order 0x%" PRIx64 " refused: %" PRIu64 "\n", word, refusal);
+        exit(1);
+    }
+    return moesi_read_answer(bytes);
+}
+
+static uint64_t packet_word(uint64_t round, uint64_t line)
+{
+    return round << 32 | line;
+}
+
+static void fill(uint64_t round, uint64_t mode)
+{
+    for (uint64_t line = BUFFER; line < BUFFER + BUFFER_LINES; line++)
+        step(moesi_order_write(0, line, mode, 0xFF), packet_word(round, line));
+}
+
+/* Asks for each line of the buffer whether a device would read what was written. */
+static int device_reads_right(uint64_t round)
+{
+    int wrong = 0;
+
+    printf("  a device reads wrong:");
+    for (uint64_t line = BUFFER; line < BUFFER + BUFFER_LINES; line++) {
+        if (step(moesi_order_device_read(line), 0).value != packet_word(round, line)) {
+            printf(" line %" PRIu64, line);
+            wrong++;
+        }
+    }
+    printf("%s\n", wrong == 0 ? " nothing" : "");
+    return wrong == 0;
+}
+
+static uint64_t flush_buffer(void)
+{
+    uint64_t stores = 0;
+
+    for (uint64_t line = BUFFER; line < BUFFER + BUFFER_LINES; line++)
+        stores += step(moesi_order_flush(0, line), 0).memory_writes;
+    return stores;
+}
+
+int main(void)
+{
+    uint8_t verdict = 0;
+    int before, after, through, read_through;
+
+    if (moesi_fresh(PORTS, SETS, LINES, memory, sizeof memory, tags, sizeof tags, states, sizeof states, data,
+                    sizeof data) != MOESI_ACCEPTED)
+        return 1;
+
+    printf("port 0 fills lines %d to %d in write back\n", BUFFER, BUFFER + BUFFER_LINES - 1);
+    fill(1, MOESI_WRITE_BACK);
+    before = device_reads_right(1);
+    printf("port 0 flushes the buffer: ");
+    printf("%" PRIu64 " words stored\n", flush_buffer());
+    after = device_reads_right(1);
+
+    printf("port 0 fills it in write through\n");
+    fill(2, MOESI_WRITE_THROUGH);
+    through = device_reads_right(2);
+
+    printf("port 0 fills it in write back, port 1 reads it in write through\n");
+    fill(3, MOESI_WRITE_BACK);
+    for (uint64_t line = BUFFER; line < BUFFER + BUFFER_LINES; line++)
+        step(moesi_order_read(1, line, MOESI_WRITE_THROUGH), 0);
+    read_through = device_reads_right(3);
+
+    moesi_audit(PORTS, SETS, LINES, memory, sizeof memory, tags, sizeof tags, states, sizeof states, data, sizeof data,
+                &verdict, sizeof verdict);
+    printf("audit: %s\n", verdict == 1 ? "yes" : "no");
+    /* Lines 4 to 7 were pushed out by lines 8 to 11, which is luck; lines 8 to 11 are still in the cache alone. */
+    return !before && after && through && read_through && verdict == 1 ? 0 : 1;
+}

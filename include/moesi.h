@@ -1,0 +1,326 @@
+/* The way in from C to the proved MOESI cache model: three calls, the numbers they speak in, and small helpers. */
+
+/*
+ * The model
+ * =========
+ *
+ * One to eight ports have a direct-mapped cache each over a main memory of
+ * 64-bit words, one word per line. A shape is three numbers: ports, sets, lines.
+ * The caller owns all the bytes and lends them for the time of a call:
+ *
+ *   memory   lines words of 8 bytes          main memory
+ *   tags     ports * sets entries of 4 bytes  the tag of each entry
+ *   states   ports * sets entries of 1 byte   the state of each entry
+ *   data     ports * sets entries of 8 bytes  the word of each entry
+ *
+ * Every word, tag and number is little-endian in these bytes, on every host.
+ * Line a has index a mod sets and tag a div sets; port p's entry for it is
+ * number p * sets + index of each table. An entry that is not invalid holds its
+ * home line, tag * sets + index. The slices need no alignment.
+ *
+ * Nothing is kept between calls: all that a call knows are its numbers and the
+ * contents of its slices. Two models are two sets of slices. Calls on separate
+ * slices may run at the same time.
+ *
+ * What a call may not do
+ * ----------------------
+ *
+ *   - Lend slices that overlap: no two slices of a call share a byte.
+ *   - Lend a slice with a false length: all its bytes must be the caller's to
+ *     read, and to write where the pointer is not const.
+ *   - Pass NULL with a length other than 0. NULL with length 0 is an empty slice.
+ *   - Touch the slices from another thread before the call returns.
+ *
+ * A wrong length as such is no mistake of this kind: it is answered by refusal 3.
+ *
+ * Refusals
+ * --------
+ *
+ * Each call returns 0, or the number of the first of these that applies, in this
+ * order. Fresh and the audit give 2 and 3 only; 1 belongs to the program trace.
+ *
+ *   2  a number of the shape is out of its range (ports 1 to 8; sets 1, 2, 4, 8,
+ *      16, 32 or 64; lines 1 to 4,096)
+ *   3  a slice hasn't exactly the length that the shape gives, or the answer
+ *      isn't 40 bytes, or the verdict isn't 1 byte
+ *   4  the kind is 5, 6 or 7
+ *   5  the port isn't below ports (not asked of a device read, which has no port)
+ *   6  the line isn't below lines
+ *   7  the mask of a swap is neither 0x0F nor 0xF0
+ *   8  at the line's index, some port's entry has a byte that is no state, or
+ *      isn't invalid and has a home line not below lines (not asked of a device
+ *      read). A model that starts fresh and is written by moesi_step alone
+ *      never gives it.
+ *
+ * A refused call changes no lent byte but the answer (number and four zeros) or
+ * the verdict (0). An answer or a verdict of another length is left alone.
+ *
+ * What a device sees
+ * ------------------
+ *
+ * A device reads main memory behind the caches, so a word that a port wrote in
+ * write back may not be there yet. For a model that starts fresh and is written
+ * by moesi_step alone this is proved: a device read of a line is right (it gives
+ * the word that a port would read) with no flush, unless the line was written
+ * in write back, by a write or by a swap that succeeded, since its last
+ * write-through access by any port (a read, a write or a swap, successful or
+ * not) or, without such an access, since the start. The rule looks at the
+ * accesses alone: a flush does not count as a write-through access, and does
+ * not clear the mark that the flat memory of the proof keeps. What a flush does
+ * is store the word if the port that flushes owns the line (state O or M); so
+ * once every holder that owns the line has flushed it, memory has the word,
+ * until the next write in write back. A flush by a port that doesn't hold the
+ * line changes nothing: to be sure, flush the line from every port, or read it
+ * once in write through from any port.
+ */
+
+#ifndef MOESI_H
+#define MOESI_H
+
+#include <stddef.h>
+#include <stdint.h>
+
+/* Limits of a shape. Ports and lines start at 1; sets is a power of two. */
+#define MOESI_MAX_PORTS 8u
+#define MOESI_MAX_SETS 64u
+#define MOESI_MAX_LINES 4096u
+
+/* Bytes of an entry or word in each slice, and of the two slices that are answered into. */
+#define MOESI_MEMORY_WORD_BYTES 8u
+#define MOESI_TAG_BYTES 4u
+#define MOESI_STATE_BYTES 1u
+#define MOESI_DATA_BYTES 8u
+#define MOESI_ANSWER_BYTES 40u
+#define MOESI_VERDICT_BYTES 1u
+
+/* Kinds of order. */
+#define MOESI_READ 0u
+#define MOESI_WRITE 1u
+#define MOESI_SWAP 2u
+#define MOESI_FLUSH 3u
+#define MOESI_DEVICE_READ 4u
+
+/* Modes of an access. */
+#define MOESI_WRITE_THROUGH 0u
+#define MOESI_WRITE_BACK 1u
+
+/* The two masks that a swap may have. */
+#define MOESI_LOWER_HALF 0x0Fu
+#define MOESI_UPPER_HALF 0xF0u
+
+/* State bytes. A write-through line is never modified or owned. */
+#define MOESI_INVALID 0u
+#define MOESI_THROUGH_SHARED 1u
+#define MOESI_THROUGH_EXCLUSIVE 2u
+#define MOESI_BACK_SHARED 9u
+#define MOESI_BACK_EXCLUSIVE 10u
+#define MOESI_OWNED 11u
+#define MOESI_MODIFIED 12u
+
+/* Refusals, in checking order. */
+#define MOESI_ACCEPTED 0u
+#define MOESI_REFUSED_TRACE 1u
+#define MOESI_REFUSED_SHAPE 2u
+#define MOESI_REFUSED_LENGTH 3u
+#define MOESI_REFUSED_KIND 4u
+#define MOESI_REFUSED_PORT 5u
+#define MOESI_REFUSED_LINE 6u
+#define MOESI_REFUSED_MASK 7u
+#define MOESI_REFUSED_ENTRY 8u
+
+#ifdef __cplusplus
+extern "C" {
+#endif
+
+/*
+ * Makes a fresh model: zeros in all three tables, so that every entry is
+ * invalid. Memory is only measured, and stays as lent.
+ */
+uint64_t moesi_fresh(uint64_t ports, uint64_t sets, uint64_t lines,
+                     const uint8_t *memory, size_t memory_len,
+                     uint8_t *tags, size_t tags_len,
+                     uint8_t *states, size_t states_len,
+                     uint8_t *data, size_t data_len);
+
+/*
+ * Carries out one order, given by its word (built below) and its operand, and
+ * writes the five numbers into the 40 bytes of answer, refused orders included.
+ * It looks at one entry per port and stores at most two words of memory; its
+ * cost does not grow with sets or lines.
+ */
+uint64_t moesi_step(uint64_t ports, uint64_t sets, uint64_t lines,
+                    uint64_t word, uint64_t operand,
+                    uint8_t *memory, size_t memory_len,
+                    uint8_t *tags, size_t tags_len,
+                    uint8_t *states, size_t states_len,
+                    uint8_t *data, size_t data_len,
+                    uint8_t *answer, size_t answer_len);
+
+/*
+ * Says whether the tables are coherent, and writes 1 for yes or 0 for no into
+ * the one byte of verdict; a refused audit says no. Yes means: every byte is a
+ * state and every home line is below lines; holders of a line have equal words
+ * and equal modes; a line held exclusive or modified has one holder; a line has
+ * at most one owned copy; a held line without an owner equals memory.
+ */
+uint64_t moesi_audit(uint64_t ports, uint64_t sets, uint64_t lines,
+                     const uint8_t *memory, size_t memory_len,
+                     const uint8_t *tags, size_t tags_len,
+                     const uint8_t *states, size_t states_len,
+                     const uint8_t *data, size_t data_len,
+                     uint8_t *verdict, size_t verdict_len);
+
+#ifdef __cplusplus
+}
+#endif
+
+/* Sizes of the slices, in bytes. */
+
+/* 1 if the three numbers are a shape, 0 if a call would answer them with refusal 2. */
+static inline int moesi_shape_in_range(uint64_t ports, uint64_t sets, uint64_t lines)
+{
+    int sets_ok = sets >= 1 && sets <= MOESI_MAX_SETS && (sets & (sets - 1)) == 0;
+
+    return sets_ok && ports >= 1 && ports <= MOESI_MAX_PORTS && lines >= 1 && lines <= MOESI_MAX_LINES;
+}
+
+/* Bytes of the four slices that a shape asks for. */
+struct moesi_sizes {
+    size_t memory;
+    size_t tags;
+    size_t states;
+    size_t data;
+};
+
+/* The sizes that a shape gives; all 0 if the numbers are no shape. */
+static inline struct moesi_sizes moesi_sizes_of(uint64_t ports, uint64_t sets, uint64_t lines)
+{
+    struct moesi_sizes sizes = {0, 0, 0, 0};
+
+    if (moesi_shape_in_range(ports, sets, lines)) {
+        size_t entries = (size_t)(ports * sets);
+
+        sizes.memory = (size_t)lines * MOESI_MEMORY_WORD_BYTES;
+        sizes.tags = entries * MOESI_TAG_BYTES;
+        sizes.states = entries * MOESI_STATE_BYTES;
+        sizes.data = entries * MOESI_DATA_BYTES;
+    }
+    return sizes;
+}
+
+/*
+ * Order words. Bits 0-2 kind, 3 mode, 4-7 port, 8-15 byte mask, 16-31 line,
+ * 32-63 compare value. A port or a line too large for its field becomes the
+ * field's largest number, which no shape has, so that the order is refused and
+ * never lands on another port or line. Any mode but 0 is write back.
+ */
+
+static inline uint64_t moesi_order_word(uint64_t kind, uint64_t mode, uint64_t port, uint64_t line,
+                                        uint64_t mask, uint64_t compare)
+{
+    uint64_t port_field = port < 15 ? port : 15;
+    uint64_t line_field = line < 65535 ? line : 65535;
+    uint64_t mode_field = mode != MOESI_WRITE_THROUGH;
+
+    return (kind & 7) | mode_field << 3 | port_field << 4 | (mask & 255) << 8 | line_field << 16 |
+           (compare & UINT64_C(0xFFFFFFFF)) << 32;
+}
+
+/* The port reads the line: value is the line's word. The operand is ignored. */
+static inline uint64_t moesi_order_read(uint64_t port, uint64_t line, uint64_t mode)
+{
+    return moesi_order_word(MOESI_READ, mode, port, line, 0, 0);
+}
+
+/* The port writes byte k of the operand into byte k of the line's word where mask bit k is 1. */
+static inline uint64_t moesi_order_write(uint64_t port, uint64_t line, uint64_t mode, uint8_t mask)
+{
+    return moesi_order_word(MOESI_WRITE, mode, port, line, mask, 0);
+}
+
+/*
+ * The port compares bits 0-31 of the line's word with compare and, if they are
+ * equal, puts bits 0-31 of the operand there. Value is the whole word before,
+ * swapped says whether they were equal.
+ */
+static inline uint64_t moesi_order_swap_lower(uint64_t port, uint64_t line, uint64_t mode, uint32_t compare)
+{
+    return moesi_order_word(MOESI_SWAP, mode, port, line, MOESI_LOWER_HALF, compare);
+}
+
+/* The same on bits 32-63, of the line's word and of the operand. */
+static inline uint64_t moesi_order_swap_upper(uint64_t port, uint64_t line, uint64_t mode, uint32_t compare)
+{
+    return moesi_order_word(MOESI_SWAP, mode, port, line, MOESI_UPPER_HALF, compare);
+}
+
+/* The port gives its copy of the line up; an owned or modified word is stored in memory first. */
+static inline uint64_t moesi_order_flush(uint64_t port, uint64_t line)
+{
+    return moesi_order_word(MOESI_FLUSH, 0, port, line, 0, 0);
+}
+
+/* A device reads the line behind the caches: value is memory's word, whatever the caches hold. */
+static inline uint64_t moesi_order_device_read(uint64_t line)
+{
+    return moesi_order_word(MOESI_DEVICE_READ, 0, 0, line, 0, 0);
+}
+
+/* The operand that gives a swap its new half. */
+static inline uint64_t moesi_operand_lower(uint32_t half)
+{
+    return half;
+}
+
+static inline uint64_t moesi_operand_upper(uint32_t half)
+{
+    return (uint64_t)half << 32;
+}
+
+/* Words in lent bytes: word number place of a slice of words (main memory, data, the answer). */
+
+static inline uint64_t moesi_get_word(const uint8_t *bytes, size_t place)
+{
+    const uint8_t *at = bytes + 8 * place;
+
+    return (uint64_t)at[0] | (uint64_t)at[1] << 8 | (uint64_t)at[2] << 16 | (uint64_t)at[3] << 24 |
+           (uint64_t)at[4] << 32 | (uint64_t)at[5] << 40 | (uint64_t)at[6] << 48 | (uint64_t)at[7] << 56;
+}
+
+static inline void moesi_put_word(uint8_t *bytes, size_t place, uint64_t word)
+{
+    uint8_t *at = bytes + 8 * place;
+
+    at[0] = (uint8_t)(word & 255);
+    at[1] = (uint8_t)(word >> 8 & 255);
+    at[2] = (uint8_t)(word >> 16 & 255);
+    at[3] = (uint8_t)(word >> 24 & 255);
+    at[4] = (uint8_t)(word >> 32 & 255);
+    at[5] = (uint8_t)(word >> 40 & 255);
+    at[6] = (uint8_t)(word >> 48 & 255);
+    at[7] = (uint8_t)(word >> 56 & 255);
+}
+
+/* The five numbers of an answer. A refused order has its number and four zeros. */
+struct moesi_answer {
+    uint64_t refusal;       /* 0 if none */
+    uint64_t value;         /* a read's word, a swap's word before, a device read's word; otherwise 0 */
+    uint64_t swapped;       /* 1 if a swap found the compare value, otherwise 0 */
+    uint64_t memory_reads;  /* words fetched from main memory: 0 or 1 */
+    uint64_t memory_writes; /* words stored in main memory: 0, 1 or 2 */
+};
+
+/* Reads the five numbers out of the 40 bytes. */
+static inline struct moesi_answer moesi_read_answer(const uint8_t *bytes)
+{
+    struct moesi_answer answer;
+
+    answer.refusal = moesi_get_word(bytes, 0);
+    answer.value = moesi_get_word(bytes, 1);
+    answer.swapped = moesi_get_word(bytes, 2);
+    answer.memory_reads = moesi_get_word(bytes, 3);
+    answer.memory_writes = moesi_get_word(bytes, 4);
+    return answer;
+}
+
+#endif

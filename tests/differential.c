@@ -1,0 +1,696 @@
+/* The differential test: the library against the second model and the flat memory; one test per group. */
+
+#include "history.h"
+#include "traffic.h"
+
+#include <inttypes.h>
+#include <stdio.h>
+#include <stdlib.h>
+#include <string.h>
+#include <time.h>
+
+enum { LONGEST_HISTORY = 60000 };
+
+/* What a run of a group works with. */
+struct tester {
+    const char *name;
+    uint64_t seed;
+    uint64_t percent; /* of the usual number of calls */
+    uint64_t group;   /* the only group to run; GROUPS for all */
+    uint64_t run;     /* the only run of it; UINT64_MAX for all */
+    int first;        /* stop at the first group that fails */
+    int exact;        /* slices without guard bytes, for a memory checker */
+    struct dice dice;
+    struct pair pair;
+    struct history history;
+    struct traffic traffic;
+};
+
+/* A group of checks: its runs are numbered, and each has its own dice, so that one can be run alone. */
+struct group {
+    const char *name;
+    int (*run)(struct tester *tester, uint64_t run);
+    uint64_t runs;
+    int scaled; /* the number of runs goes with percent */
+};
+
+/* Says what a call outside a history showed. */
+static int report_call(struct tester *tester, const char *what, struct second_shape shape, uint64_t word,
+                       uint64_t operand)
+{
+    const struct lent *slices = tester->pair.slices;
+
+    printf("  %s: shape %" PRIu64 " %" PRIu64 " %" PRIu64 ", word 0x%" PRIx64 " operand 0x%" PRIx64 "\n", what,
+           shape.ports, shape.sets, shape.lines, word, operand);
+    printf("  lengths: memory %zu, tags %zu, states %zu, data %zu, result %zu\n", slices[MEMORY].length,
+           slices[TAGS].length, slices[STATES].length, slices[DATA].length, slices[RESULT].length);
+    printf("%s", tester->pair.difference);
+    return 0;
+}
+
+/* The fourteen orders. */
+
+struct literal {
+    uint64_t word, operand;
+    struct second_answer answer;
+    unsigned states[2]; /* in which ports 0 and 1 hold the order's line */
+    uint64_t memory[2];
+};
+
+/* Document 01's list, number by number. */
+static const struct literal fourteen[14] = {
+    {0x0000000000000008, 0, {0, 5, 0, 1, 0}, {10, 0}, {5, 7}},
+    {0x0000000000000018, 0, {0, 5, 0, 1, 0}, {9, 9}, {5, 7}},
+    {0x000000000000FF19, 9, {0, 0, 0, 0, 0}, {9, 11}, {5, 7}},
+    {0x0000000000000004, 0, {0, 5, 0, 1, 0}, {9, 11}, {5, 7}},
+    {0x0000000000000000, 0, {0, 9, 0, 0, 1}, {1, 1}, {9, 7}},
+    {0x0000000000000004, 0, {0, 9, 0, 1, 0}, {1, 1}, {9, 7}},
+    {0x0000000900000F0A, 4, {0, 9, 1, 0, 0}, {11, 9}, {9, 7}},
+    {0x0000000900000F1A, 0, {0, 4, 0, 0, 0}, {11, 9}, {9, 7}},
+    {0x0000000000010101, 0x1FF, {0, 0, 0, 1, 2}, {2, 0}, {4, 255}},
+    {0x0000000000010013, 0, {0, 0, 0, 0, 0}, {2, 0}, {4, 255}},
+    {0x000000010001F01A, 0, {0, 255, 0, 1, 0}, {0, 10}, {4, 255}},
+    {0x0000000000010019, 0, {0, 0, 0, 0, 0}, {0, 12}, {4, 255}},
+    {0x000000010001F002, 0, {0, 255, 0, 0, 1}, {2, 0}, {4, 255}},
+    {0x0000000000000020, 0, {5, 0, 0, 0, 0}, {0, 9}, {4, 255}},
+};
+
+/* The state in which a port of the shape 2/1/2 holds a line, by the lent bytes. */
+static unsigned state_held(const struct pair *pair, unsigned port, unsigned line)
+{
+    const uint8_t *tag = pair->slices[TAGS].bytes + 4 * port;
+
+    return tag[0] == line && tag[1] == 0 && tag[2] == 0 && tag[3] == 0 ? pair->slices[STATES].bytes[port] : 0;
+}
+
+static int is_literal(const struct pair *pair, const struct literal *literal)
+{
+    unsigned line = (unsigned)(literal->word >> 16 & 65535);
+    struct second_answer answer = second_decode_answer(pair->slices[RESULT].bytes);
+    uint8_t memory[16] = {0};
+
+    memory[0] = (uint8_t)literal->memory[0];
+    memory[8] = (uint8_t)literal->memory[1];
+    return memcmp(&answer, &literal->answer, sizeof answer) == 0 &&
+           memcmp(memory, pair->slices[MEMORY].bytes, sizeof memory) == 0 &&
+           (literal->answer.refusal != 0 || (state_held(pair, 0, line) == literal->states[0] &&
+                                             state_held(pair, 1, line) == literal->states[1]));
+}
+
+/* Carries one of the fourteen out and holds it against the list; the audit says yes after it. */
+static int is_as_listed(struct tester *tester, size_t k)
+{
+    struct pair *pair = &tester->pair;
+
+    if (!history_add(&tester->history, pair, fourteen[k].word, fourteen[k].operand))
+        return 0;
+    if (!is_literal(pair, &fourteen[k])) {
+        snprintf(pair->difference, sizeof pair->difference, "  order %zu is not as document 01 says\n", k + 1);
+        return 0;
+    }
+    return history_end(&tester->history, pair);
+}
+
+static int fourteen_orders(struct tester *tester, uint64_t run)
+{
+    static const struct second_shape shape = {2, 1, 2};
+    struct history *history = &tester->history;
+    size_t k = 0;
+
+    (void)run;
+    history->start.shape = shape;
+    traffic_fill_tables(&tester->dice, &history->start);
+    history->start.memory[0] = 5;
+    history->start.memory[1] = 7;
+    history->fresh = 1;
+    history->audit_every = 100;
+    history->skew = 0;
+    if (history_begin(history, &tester->pair)) {
+        while (k < 14 && is_as_listed(tester, k))
+            k++;
+    }
+    if (k < 14)
+        history_print(history, &tester->pair);
+    return k == 14;
+}
+
+/* Every table of few entries, and every order on it. */
+
+struct choice {
+    uint8_t state;
+    uint32_t tag;
+};
+
+/* The entries that a table is made of: the states and two other bytes, each with line 0, line 1 and a line beyond. */
+static size_t list_choices(struct choice *choices, int all)
+{
+    static const uint8_t states[9] = {0, 1, 2, 9, 10, 11, 12, 8, 13};
+    size_t count = 0;
+
+    for (size_t s = 0; s < (all ? 9u : 7u); s++) {
+        for (uint32_t tag = 0; tag < (all ? 3u : 2u); tag++) {
+            struct choice choice = {states[s], tag};
+
+            if (all || states[s] != 0 || tag == 0)
+                choices[count++] = choice;
+        }
+    }
+    return count;
+}
+
+/* Words that tell where a word came from, or one word everywhere so that the audit can say yes. */
+static void fill_words(struct second_model *model, int distinct)
+{
+    for (unsigned line = 0; line < 2; line++)
+        model->memory[line] = distinct ? UINT64_C(0x800000008) + line : 7;
+    for (unsigned port = 0; port < model->shape.ports; port++)
+        model->data[port] = distinct ? UINT64_C(0x1000000010) * (port + 1) : 7;
+}
+
+/* One order on the table in start. The table is lent anew for each order. */
+static int try_order(struct tester *tester, uint64_t word)
+{
+    struct history *history = &tester->history;
+
+    history->fresh = 0;
+    history->audit_every = 100;
+    tester->pair.second = history->start;
+    pair_lend(&tester->pair, (unsigned)(word & 7));
+    history->count = 0;
+    if (history_add(history, &tester->pair, word, UINT64_C(0x3333333322222222)))
+        return 1;
+    history_print(history, &tester->pair);
+    return 0;
+}
+
+static int try_swaps(struct tester *tester, unsigned port, unsigned line, unsigned mode)
+{
+    const struct second_model *start = &tester->history.start;
+
+    for (unsigned k = 0; k <= start->shape.ports; k++) {
+        uint64_t word = k < start->shape.ports ? start->data[k] : start->memory[line];
+
+        if (!try_order(tester, traffic_word(SECOND_SWAP, mode, port, 0x0F, line, word & UINT64_C(0xFFFFFFFF))))
+            return 0;
+        if (!try_order(tester, traffic_word(SECOND_SWAP, mode, port, 0xF0, line, word >> 32)))
+            return 0;
+    }
+    return try_order(tester, traffic_word(SECOND_SWAP, mode, port, 0xF0, line, 0xFFFFFFFF));
+}
+
+/* Every kind of order of a port, to a line, in a mode. */
+static int try_orders(struct tester *tester, unsigned port, unsigned line, unsigned mode)
+{
+    return try_order(tester, traffic_word(SECOND_READ, mode, port, 0, line, 0)) &&
+           try_order(tester, traffic_word(SECOND_WRITE, mode, port, 0x3C, line, 0)) &&
+           try_order(tester, traffic_word(SECOND_FLUSH, mode, port, 0, line, 0)) &&
+           try_order(tester, traffic_word(SECOND_DEVICE_READ, mode, port, 0, line, 0)) &&
+           try_swaps(tester, port, line, mode);
+}
+
+static int try_audit(struct tester *tester, int distinct)
+{
+    fill_words(&tester->history.start, distinct);
+    tester->pair.second = tester->history.start;
+    pair_lend(&tester->pair, 0);
+    if (pair_audit(&tester->pair))
+        return 1;
+    tester->history.count = 0;
+    tester->history.fresh = 0;
+    history_print(&tester->history, &tester->pair);
+    return 0;
+}
+
+static int try_table(struct tester *tester)
+{
+    unsigned ports = (unsigned)tester->history.start.shape.ports;
+
+    if (!try_audit(tester, 0) || !try_audit(tester, 1))
+        return 0;
+    for (unsigned k = 0; k < 4 * ports; k++) {
+        if (!try_orders(tester, k / 4, k / 2 % 2, k % 2))
+            return 0;
+    }
+    return 1;
+}
+
+/* In a short run only some tables of three and four ports: a stride prime to the number of choices, so that every entry
+   still comes up at every port. */
+static size_t table_stride(unsigned ports, uint64_t percent)
+{
+    size_t stride = ports > 2 && percent < 100 ? 100 / (size_t)percent : 1;
+
+    while (stride % 3 == 0 || stride % 13 == 0)
+        stride++;
+    return stride;
+}
+
+/* Run r: tables of r + 1 ports, one set, two lines. For one to three ports all entries, for four the states alone. */
+static int every_small_table(struct tester *tester, uint64_t run)
+{
+    struct second_model *start = &tester->history.start;
+    struct choice choices[27];
+    unsigned ports = (unsigned)run + 1;
+    size_t count = list_choices(choices, ports < 4), tables = 1;
+    size_t stride = table_stride(ports, tester->percent);
+
+    start->shape.ports = ports;
+    start->shape.sets = 1;
+    start->shape.lines = 2;
+    for (unsigned port = 0; port < ports; port++)
+        tables *= count;
+    for (size_t table = 0; table < tables; table += stride) {
+        size_t rest = table;
+
+        for (unsigned port = 0; port < ports; port++, rest /= count) {
+            start->states[port] = choices[rest % count].state;
+            start->tags[port] = choices[rest % count].tag;
+        }
+        if (!try_table(tester))
+            return 0;
+    }
+    return 1;
+}
+
+/* Histories. */
+
+/* How often the audit is held against the second model's, which looks at every line. */
+static uint64_t audit_every(struct second_shape shape)
+{
+    if (shape.lines <= 16)
+        return 1;
+    return shape.lines <= 128 ? 8 : 64;
+}
+
+static void begin_traffic(struct tester *tester, struct second_shape shape)
+{
+    struct second_model *start = &tester->history.start;
+
+    traffic_begin(&tester->traffic, &tester->dice, shape);
+    start->shape = shape;
+    traffic_fill_memory(&tester->traffic, &tester->dice, start);
+    tester->history.skew = dice_below(&tester->dice, 8);
+    tester->history.audit_every = audit_every(shape);
+}
+
+/* A failed history: cut down, then printed. */
+static int report_history(struct tester *tester)
+{
+    printf("  order %zu of the history differs; cut down:\n", tester->history.count);
+    history_shrink(&tester->history, &tester->pair);
+    history_print(&tester->history, &tester->pair);
+    return 0;
+}
+
+/* Carries out orders from history.start. */
+static int run_history(struct tester *tester, int fresh, size_t orders)
+{
+    struct pair *pair = &tester->pair;
+    struct history *history = &tester->history;
+
+    history->fresh = fresh;
+    if (!history_begin(history, pair))
+        return report_history(tester);
+    for (size_t k = 0; k < orders; k++) {
+        uint64_t word = traffic_order(&tester->traffic, &tester->dice, &pair->second);
+        uint64_t operand = traffic_operand(&tester->traffic, &tester->dice);
+
+        if (!history_add(history, pair, word, operand))
+            return report_history(tester);
+    }
+    return history_end(history, pair) || report_history(tester);
+}
+
+static int fresh_history(struct tester *tester, struct second_shape shape, size_t orders)
+{
+    begin_traffic(tester, shape);
+    traffic_fill_tables(&tester->dice, &tester->history.start);
+    return run_history(tester, 1, orders);
+}
+
+static int small_histories(struct tester *tester, uint64_t run)
+{
+    (void)run;
+    return fresh_history(tester, traffic_small_shape(&tester->dice), 60 + dice_below(&tester->dice, 200));
+}
+
+static int all_histories(struct tester *tester, uint64_t run)
+{
+    (void)run;
+    return fresh_history(tester, traffic_any_shape(&tester->dice), 100 + dice_below(&tester->dice, 500));
+}
+
+/* A few shapes that stand at an edge, each run longer. */
+static int long_histories(struct tester *tester, uint64_t run)
+{
+    static const struct second_shape shapes[6] = {{3, 2, 7},  {1, 1, 1},   {8, 1, 16},
+                                                  {2, 64, 1}, {8, 64, 64}, {8, 64, 4096}};
+    struct second_shape shape = shapes[run % 6];
+
+    return fresh_history(tester, shape, shape.lines > 1000 ? LONGEST_HISTORY / 3 : LONGEST_HISTORY);
+}
+
+/* Damage to the tables of a history, then orders, then damage again: on tables that fail the audit too. */
+static int damaged_tables(struct tester *tester, uint64_t run)
+{
+    struct second_shape shape = run % 4 < 3 ? traffic_small_shape(&tester->dice) : traffic_any_shape(&tester->dice);
+    unsigned rounds = 1 + dice_below(&tester->dice, 12);
+
+    if (!fresh_history(tester, shape, 20 + dice_below(&tester->dice, 60)))
+        return 0;
+    for (unsigned round = 0; round < rounds; round++) {
+        unsigned damages = 1 + dice_below(&tester->dice, 3);
+
+        tester->history.start = tester->pair.second;
+        for (unsigned k = 0; k < damages; k++)
+            traffic_damage(&tester->traffic, &tester->dice, &tester->history.start);
+        if (!run_history(tester, 0, dice_below(&tester->dice, 12)))
+            return 0;
+    }
+    return 1;
+}
+
+static int noise(struct tester *tester, uint64_t run)
+{
+    struct second_shape shape = run % 8 < 7 ? traffic_small_shape(&tester->dice) : traffic_any_shape(&tester->dice);
+
+    begin_traffic(tester, shape);
+    tester->traffic.odd_percent = 20;
+    traffic_noise(&tester->traffic, &tester->dice, &tester->history.start);
+    return run_history(tester, 0, 10 + dice_below(&tester->dice, 30));
+}
+
+/* Shapes. */
+
+/* A number of lines for each of many runs: every small one, many of the rest, the largest. */
+static uint64_t lines_of_step(uint64_t step)
+{
+    if (step < 130)
+        return step + 1;
+    return step < 194 ? 130 + (step - 130) * 62 : 4096 - (step - 194);
+}
+
+/* Run r: the shapes with one number of lines. A short history on each. */
+static int every_shape(struct tester *tester, uint64_t run)
+{
+    for (unsigned ports = 1; ports <= 8; ports++) {
+        for (unsigned log = 0; log <= 6; log++) {
+            struct second_shape shape = {ports, 1u << log, lines_of_step(run)};
+
+            if (!fresh_history(tester, shape, 3 + dice_below(&tester->dice, 5)))
+                return 0;
+        }
+    }
+    return 1;
+}
+
+/* Calls with lengths and shapes that are refused. */
+
+/* Makes the three calls with the slices as placed. Results of the right length and of others. */
+static int make_calls(struct tester *tester, struct second_shape shape)
+{
+    static const size_t results[8] = {40, 1, 0, 39, 41, 2, 8, 80};
+    struct pair *pair = &tester->pair;
+    uint64_t word = dice_percent(&tester->dice, 50) ? dice_word(&tester->dice) : 0x0F08;
+
+    if (!pair_call(pair, FRESH, shape, 0, 0))
+        return report_call(tester, "fresh", shape, 0, 0);
+    for (size_t k = 0; k < 8; k++) {
+        if (dice_percent(&tester->dice, 50))
+            pair_place(pair, RESULT, results[k], dice_below(&tester->dice, 8));
+        else if (results[k] == 0)
+            pair_place_null(pair, RESULT);
+        else
+            continue;
+        if (!pair_call(pair, STEP, shape, word, 5))
+            return report_call(tester, "step", shape, word, 5);
+        if (!pair_call(pair, AUDIT, shape, 0, 0))
+            return report_call(tester, "audit", shape, 0, 0);
+    }
+    return 1;
+}
+
+static size_t wrong_length(struct dice *dice, size_t length, size_t entry)
+{
+    size_t lengths[9] = {length - 1, length + 1, length - entry, length + entry, length / 2, 2 * length, 0, 1, entry};
+    size_t chosen = lengths[dice_below(dice, 9)];
+
+    if (dice_percent(dice, 10))
+        chosen = dice_below(dice, 3 * length);
+    return chosen <= LENT_CAPACITY ? chosen : length + 1;
+}
+
+/* Lends the slices of a shape, some with other lengths; an empty one is sometimes NULL. */
+static void place_wrongly(struct tester *tester, struct second_shape shape, unsigned wrong)
+{
+    static const size_t entry_bytes[4] = {8, 4, 1, 8};
+    struct second_model *start = &tester->history.start;
+
+    start->shape = shape;
+    traffic_fill_tables(&tester->dice, start);
+    tester->pair.second = *start;
+    pair_lend(&tester->pair, dice_below(&tester->dice, 8));
+    for (unsigned s = MEMORY; s <= DATA; s++) {
+        size_t length = tester->pair.slices[s].length;
+
+        if (!(wrong >> s & 1))
+            continue;
+        length = wrong_length(&tester->dice, length, entry_bytes[s]);
+        if (length == 0 && dice_percent(&tester->dice, 50))
+            pair_place_null(&tester->pair, (enum slice)s);
+        else
+            pair_place(&tester->pair, (enum slice)s, length, dice_below(&tester->dice, 8));
+    }
+}
+
+/* One slice, several or none has another length than the shape gives; the results too. */
+static int wrong_lengths(struct tester *tester, uint64_t run)
+{
+    struct dice *dice = &tester->dice;
+    struct second_shape shape = run % 2 ? traffic_any_shape(dice) : traffic_small_shape(dice);
+
+    place_wrongly(tester, shape, run % 3 ? 1u << dice_below(dice, 4) : dice_below(dice, 16));
+    return make_calls(tester, shape);
+}
+
+/* All slices empty, with and without NULL, under shapes in range and out of it. */
+static int empty_slices(struct tester *tester, uint64_t run)
+{
+    static const struct second_shape shapes[4] = {{1, 1, 1}, {8, 64, 4096}, {0, 0, 0}, {9, 1, 1}};
+
+    for (unsigned nulls = 0; nulls < 32; nulls++) {
+        for (unsigned s = 0; s < SLICES; s++) {
+            if (nulls >> s & 1)
+                pair_place_null(&tester->pair, (enum slice)s);
+            else
+                pair_place(&tester->pair, (enum slice)s, 0, s);
+        }
+        if (!make_calls(tester, shapes[run % 4]))
+            return 0;
+    }
+    return 1;
+}
+
+static const uint64_t odd_ports[] = {0, 9, 10, 15, 16, 64, 255, 256, 257, UINT64_C(0x100000001), UINT64_C(0x100000008),
+                                     UINT64_C(1) << 61, UINT64_C(1) << 63, UINT64_MAX, UINT64_MAX - 7};
+static const uint64_t odd_sets[] = {0, 3, 5, 6, 7, 9, 12, 24, 33, 48, 63, 65, 96, 127, 128, 256, 257, 65536,
+                                    UINT64_C(0x100000001), UINT64_C(0x100000040), UINT64_C(1) << 32,
+                                    UINT64_C(1) << 60, UINT64_C(1) << 63, UINT64_MAX, UINT64_MAX - 63};
+static const uint64_t odd_lines[] = {0, 4097, 4098, 8192, 65535, 65536, 65537, UINT64_C(0x100000001),
+                                     UINT64_C(0x100001000), UINT64_C(1) << 61, (UINT64_C(1) << 61) + 1,
+                                     UINT64_C(1) << 63, UINT64_MAX, UINT64_MAX - 4095};
+
+/* A number out of its range, or now and then any 64 bits. */
+static uint64_t odd_number(struct dice *dice, const uint64_t *numbers, size_t count)
+{
+    return dice_percent(dice, 10) ? dice_word(dice) : numbers[dice_below(dice, count)];
+}
+
+/* Shapes with numbers out of their ranges. The slices are those of a shape in range: of the shape itself with numbers
+   cut to a few bits where that is one, so that a model that loses the upper bits would take the call. */
+static int odd_shapes(struct tester *tester, uint64_t run)
+{
+    struct dice *dice = &tester->dice;
+    struct second_shape lent = traffic_small_shape(dice), odd = lent;
+    unsigned which = 1 + (unsigned)(run % 7);
+
+    if (which & 1)
+        odd.ports = odd_number(dice, odd_ports, sizeof odd_ports / sizeof odd_ports[0]);
+    if (which & 2)
+        odd.sets = odd_number(dice, odd_sets, sizeof odd_sets / sizeof odd_sets[0]);
+    if (which & 4)
+        odd.lines = odd_number(dice, odd_lines, sizeof odd_lines / sizeof odd_lines[0]);
+    if ((uint32_t)odd.ports - 1 < 8)
+        lent.ports = (uint32_t)odd.ports;
+    if ((uint32_t)odd.lines - 1 < 4096)
+        lent.lines = (uint32_t)odd.lines;
+    if ((uint32_t)odd.sets == 1 || (uint32_t)odd.sets == 64)
+        lent.sets = (uint32_t)odd.sets;
+    place_wrongly(tester, lent, run % 5 == 0 ? dice_below(dice, 16) : 0);
+    return make_calls(tester, odd);
+}
+
+/* Shapes just out of range with exactly the lengths that their numbers would give. */
+static int shapes_with_their_lengths(struct tester *tester, uint64_t run)
+{
+    static const struct second_shape shapes[] = {{0, 1, 1}, {1, 0, 1}, {1, 1, 0}, {9, 1, 1}, {9, 4, 9}, {2, 3, 5},
+                                                 {8, 65, 10}, {1, 128, 1}, {1, 1, 4097}, {8, 64, 4097}, {16, 2, 2}};
+    struct second_shape shape = shapes[run % (sizeof shapes / sizeof shapes[0])];
+    struct second_lengths lengths = second_lengths_of(shape, 0);
+    size_t due[4] = {lengths.memory, lengths.tags, lengths.states, lengths.data};
+
+    for (unsigned s = MEMORY; s <= DATA; s++)
+        pair_place(&tester->pair, (enum slice)s, due[s], dice_below(&tester->dice, 8));
+    return make_calls(tester, shape);
+}
+
+/* The groups. */
+
+static const struct group groups[] = {
+    {"the fourteen orders of document 01", fourteen_orders, 1, 0},
+    {"every small table, every order", every_small_table, 4, 0},
+    {"histories from fresh, small shapes", small_histories, 4000, 1},
+    {"histories from fresh, all shapes", all_histories, 500, 1},
+    {"long histories from fresh", long_histories, 6, 1},
+    {"every shape", every_shape, 202, 1},
+    {"damaged tables", damaged_tables, 6000, 1},
+    {"noise", noise, 12000, 1},
+    {"wrong lengths", wrong_lengths, 8000, 1},
+    {"empty slices", empty_slices, 4, 0},
+    {"odd shapes", odd_shapes, 8000, 1},
+    {"shapes just out of range", shapes_with_their_lengths, 110, 0},
+};
+
+enum { GROUPS = sizeof groups / sizeof groups[0] };
+
+static uint64_t runs_of(const struct group *group, uint64_t percent)
+{
+    uint64_t runs = group->scaled ? group->runs * percent / 100 : group->runs;
+
+    return runs > 0 ? runs : 1;
+}
+
+/* One run of a group with its own dice. */
+static int run_once(struct tester *tester, size_t number, uint64_t run)
+{
+    struct dice dice = {tester->seed * UINT64_C(0xD1342543DE82EF95) + number};
+
+    tester->dice.state = dice_word(&dice) + run * UINT64_C(0xDA942042E4DD58B5);
+    if (groups[number].run(tester, run))
+        return 1;
+    printf("  seed %" PRIu64 ", group %zu, run %" PRIu64 "; again: --seed %" PRIu64 " --group %zu --run %" PRIu64 "\n",
+           tester->seed, number, run, tester->seed, number, run);
+    return 0;
+}
+
+static int run_group(struct tester *tester, size_t number)
+{
+    uint64_t runs = runs_of(&groups[number], tester->percent);
+    uint64_t run = 0;
+
+    while (run < runs && run_once(tester, number, run))
+        run++;
+    printf("%s %s: %s\n", run == runs ? "ok" : "FAILED", tester->name, groups[number].name);
+    fflush(stdout);
+    return run == runs;
+}
+
+/* Whether the run met everything that it is there to meet. */
+static int met_everything(const struct tally *tally)
+{
+    int met = tally->swapped > 0 && tally->reads[0] > 0 && tally->reads[1] > 0 && tally->verdicts[0] > 0 &&
+              tally->verdicts[1] > 0 && tally->devices_compared > 0 && tally->devices_not_compared > 0;
+
+    for (int refusal = 2; refusal <= 8; refusal++)
+        met = met && tally->step_refusals[refusal] > 0;
+    for (int refusal = 2; refusal <= 3; refusal++)
+        met = met && tally->fresh_refusals[refusal] > 0 && tally->audit_refusals[refusal] > 0;
+    for (int kind = 0; kind < 5; kind++)
+        met = met && tally->kinds[kind] > 0;
+    for (int writes = 0; writes < 3; writes++)
+        met = met && tally->writes[writes] > 0;
+    return met;
+}
+
+static void print_tally(const struct tally *tally, double seconds)
+{
+    printf("  %" PRIu64 " calls in %.1f s; step refused 2 to 8:", tally->calls, seconds);
+    for (int refusal = 2; refusal <= 8; refusal++)
+        printf(" %" PRIu64, tally->step_refusals[refusal]);
+    printf("; accepted by kind:");
+    for (int kind = 0; kind < 5; kind++)
+        printf(" %" PRIu64, tally->kinds[kind]);
+    printf("\n  swapped %" PRIu64 "; memory writes 0, 1, 2: %" PRIu64 " %" PRIu64 " %" PRIu64, tally->swapped,
+           tally->writes[0], tally->writes[1], tally->writes[2]);
+    printf("; audits no, yes: %" PRIu64 " %" PRIu64 "; device reads under mark 0, 1: %" PRIu64 " %" PRIu64 "\n",
+           tally->verdicts[0], tally->verdicts[1], tally->devices_compared, tally->devices_not_compared);
+}
+
+static int run_all(struct tester *tester)
+{
+    clock_t start = clock();
+    int failed = 0, met;
+
+    for (size_t number = 0; number < GROUPS && !(failed && tester->first); number++)
+        failed += !run_group(tester, number);
+    print_tally(&tester->pair.tally, (double)(clock() - start) / CLOCKS_PER_SEC);
+    if (failed)
+        return 0;
+    met = met_everything(&tester->pair.tally);
+    printf("%s %s: every refusal, count and verdict was met\n", met ? "ok" : "FAILED", tester->name);
+    return met;
+}
+
+static int run_chosen(struct tester *tester)
+{
+    if (tester->group == GROUPS)
+        return run_all(tester);
+    if (tester->run == UINT64_MAX)
+        return run_group(tester, (size_t)tester->group);
+    return run_once(tester, (size_t)tester->group, tester->run);
+}
+
+/* Takes one option with its value; 0 if there is no such option. */
+static int take_option(struct tester *tester, const char *option, const char *value)
+{
+    uint64_t number = strtoull(value, NULL, 10);
+
+    if (strcmp(option, "--name") == 0)
+        tester->name = value;
+    else if (strcmp(option, "--seed") == 0)
+        tester->seed = number;
+    else if (strcmp(option, "--percent") == 0 && number > 0)
+        tester->percent = number;
+    else if (strcmp(option, "--group") == 0 && number < GROUPS)
+        tester->group = number;
+    else if (strcmp(option, "--run") == 0)
+        tester->run = number;
+    else if (strcmp(option, "--first") == 0)
+        tester->first = number != 0;
+    else if (strcmp(option, "--exact") == 0)
+        tester->exact = number != 0;
+    else
+        return 0;
+    return 1;
+}
+
+int main(int argc, char **argv)
+{
+    static struct tester tester = {.name = "library", .seed = 1, .percent = 100, .group = GROUPS, .run = UINT64_MAX};
+    int fine = argc % 2 == 1;
+
+    for (int k = 1; fine && k < argc; k += 2)
+        fine = take_option(&tester, argv[k], argv[k + 1]);
+    if (!fine) {
+        fprintf(stderr, "differential [--name NAME] [--seed N] [--percent N] [--group N] [--run N] [--first 1] "
+                        "[--exact 1]\n");
+        return 2;
+    }
+    if (!pair_open(&tester.pair) || !history_open(&tester.history, LONGEST_HISTORY))
+        return 2;
+    tester.pair.exact = tester.exact;
+    fine = run_chosen(&tester);
+    pair_close(&tester.pair);
+    history_close(&tester.history);
+    return fine ? 0 : 1;
+}

@@ -1,0 +1,67 @@
+/* The flat memory: document 01's section of that name, a branch per sentence. */
+
+#include "flat_memory.h"
+
+void flat_start(struct flat_memory *flat, struct second_shape shape, const uint64_t *memory)
+{
+    flat->shape = shape;
+    for (size_t line = 0; line < shape.lines; line++) {
+        flat->words[line] = memory[line];
+        flat->marks[line] = 0;
+    }
+}
+
+/* "Read: value F[a]; m = 0 clears the mark." */
+static void flat_read(struct flat_memory *flat, struct second_order order, struct flat_answer *answer)
+{
+    answer->value = flat->words[order.line];
+    if (order.mode == SECOND_THROUGH)
+        flat->marks[order.line] = 0;
+}
+
+/* "Write: merge into F[a], mark becomes m." */
+static void flat_write(struct flat_memory *flat, struct second_order order)
+{
+    flat->words[order.line] = second_merge(flat->words[order.line], order.operand, order.mask);
+    flat->marks[order.line] = order.mode == SECOND_BACK ? 1 : 0;
+}
+
+/* "Swap: the comparison is with F[a], and value is F[a] before the merge; success gives swapped 1, merges and sets the
+   mark to m, failure acts as a read." */
+static void flat_swap(struct flat_memory *flat, struct second_order order, struct flat_answer *answer)
+{
+    if (!second_swap_succeeds(order, flat->words[order.line])) {
+        flat_read(flat, order, answer);
+        return;
+    }
+    answer->value = flat->words[order.line];
+    answer->swapped = 1;
+    flat_write(flat, order);
+}
+
+struct flat_answer flat_order(struct flat_memory *flat, uint64_t word, uint64_t operand)
+{
+    struct second_order order = second_take_apart(word, operand);
+    struct flat_answer answer = {second_order_refusal(flat->shape, order), 0, 0, 1};
+
+    if (answer.refusal != 0)
+        return answer;
+    switch (order.kind) {
+    case SECOND_READ:
+        flat_read(flat, order, &answer);
+        break;
+    case SECOND_WRITE:
+        flat_write(flat, order);
+        break;
+    case SECOND_SWAP:
+        flat_swap(flat, order, &answer);
+        break;
+    case SECOND_DEVICE_READ:
+        answer.value = flat->words[order.line];
+        answer.compared_value = flat->marks[order.line] == 0;
+        break;
+    default: /* "Flush: nothing." */
+        break;
+    }
+    return answer;
+}

@@ -1,0 +1,214 @@
+/* Histories of orders, carried out by the pair beside the flat memory, and cut down to a short one where they fail. */
+
+#include "history.h"
+
+#include <inttypes.h>
+#include <stdio.h>
+#include <stdlib.h>
+#include <string.h>
+
+int history_open(struct history *history, size_t room)
+{
+    memset(history, 0, sizeof *history);
+    history->room = room;
+    history->orders = calloc(room, sizeof history->orders[0]);
+    return history->orders != NULL;
+}
+
+void history_close(struct history *history)
+{
+    free(history->orders);
+}
+
+/* The audit in a history: from a fresh start it must say yes. */
+static int audit(const struct history *history, struct pair *pair)
+{
+    if (!pair_audit(pair))
+        return 0;
+    if (history->fresh && pair_verdict(pair) != 1) {
+        snprintf(pair->difference, sizeof pair->difference, "  the audit of a history from a fresh start says no\n");
+        return 0;
+    }
+    return 1;
+}
+
+int history_begin(struct history *history, struct pair *pair)
+{
+    history->count = 0;
+    pair->second = history->start;
+    pair_lend(pair, history->skew);
+    if (!history->fresh)
+        return audit(history, pair);
+    flat_start(&history->flat, history->start.shape, history->start.memory);
+    return pair_fresh(pair) && audit(history, pair);
+}
+
+static void say_flat_differs(struct pair *pair, const char *what, uint64_t flat, uint64_t model)
+{
+    snprintf(pair->difference, sizeof pair->difference,
+             "  the flat memory's %s is 0x%" PRIx64 ", the library's and the second model's 0x%" PRIx64 "\n", what,
+             flat, model);
+}
+
+/* Holds the answer of the step just made against the flat memory's. */
+static int agrees_with_flat(struct history *history, struct pair *pair, struct history_order order)
+{
+    struct flat_answer flat = flat_order(&history->flat, order.word, order.operand);
+    struct second_answer model = pair->expected;
+
+    if (flat.refusal == 0 && (order.word & 7) == SECOND_DEVICE_READ) {
+        pair->tally.devices_compared += flat.compared_value != 0;
+        pair->tally.devices_not_compared += flat.compared_value == 0;
+    }
+    if (flat.refusal != model.refusal)
+        say_flat_differs(pair, "refusal", flat.refusal, model.refusal);
+    else if (flat.compared_value && flat.value != model.value)
+        say_flat_differs(pair, "value", flat.value, model.value);
+    else if (flat.swapped != model.swapped)
+        say_flat_differs(pair, "swapped mark", flat.swapped, model.swapped);
+    else
+        return 1;
+    return 0;
+}
+
+int history_add(struct history *history, struct pair *pair, uint64_t word, uint64_t operand)
+{
+    struct history_order order = {word, operand};
+
+    if (history->count < history->room)
+        history->orders[history->count] = order;
+    history->count++;
+    if (!pair_step(pair, word, operand))
+        return 0;
+    if (history->fresh && !agrees_with_flat(history, pair, order))
+        return 0;
+    return history->count % history->audit_every != 0 || audit(history, pair);
+}
+
+int history_end(struct history *history, struct pair *pair)
+{
+    return audit(history, pair);
+}
+
+/* Carries the first count orders of a list out from the start, an audit after each; 1 if one of them fails. */
+static int replay_fails(struct history *history, struct pair *pair, const struct history_order *orders, size_t count)
+{
+    size_t k = 0;
+
+    if (!history_begin(history, pair))
+        return 1;
+    while (k < count) {
+        if (!history_add(history, pair, orders[k].word, orders[k].operand))
+            return 1;
+        k++;
+    }
+    return !history_end(history, pair);
+}
+
+static size_t list_without(const struct history_order *orders, size_t count, size_t from, size_t cut,
+                           struct history_order *into)
+{
+    size_t end = from + cut < count ? from + cut : count;
+
+    memcpy(into, orders, from * sizeof orders[0]);
+    memcpy(into + from, orders + end, (count - end) * sizeof orders[0]);
+    return count - (end - from);
+}
+
+/* Leaves pieces out, halves first and single orders last, while the rest fails; gives the orders left. */
+static size_t cut_down(struct history *history, struct pair *pair, struct history_order *orders,
+                       struct history_order *trial, size_t count)
+{
+    uint64_t patience = 300000; /* orders to carry out, at most */
+
+    for (size_t cut = count / 2; cut > 0; cut /= 2) {
+        size_t from = 0;
+
+        while (from < count) {
+            size_t left = list_without(orders, count, from, cut, trial);
+
+            if (patience < left)
+                return count;
+            patience -= left + 1;
+            if (replay_fails(history, pair, trial, left)) {
+                count = history->count < left ? history->count : left;
+                memcpy(orders, trial, count * sizeof orders[0]);
+            } else {
+                from += cut;
+            }
+        }
+    }
+    return count;
+}
+
+void history_shrink(struct history *history, struct pair *pair)
+{
+    size_t count = history->count;
+    uint64_t audit_every = history->audit_every;
+    struct history_order *orders, *trial;
+
+    if (count == 0 || count > history->room)
+        return;
+    orders = calloc(count, sizeof orders[0]);
+    trial = calloc(count, sizeof trial[0]);
+    if (orders != NULL && trial != NULL) {
+        memcpy(orders, history->orders, count * sizeof orders[0]);
+        if (history->start.shape.lines <= 64)
+            history->audit_every = 1;
+        if (replay_fails(history, pair, orders, count))
+            count = cut_down(history, pair, orders, trial, history->count);
+        replay_fails(history, pair, orders, count);
+        history->audit_every = audit_every;
+    }
+    free(orders);
+    free(trial);
+}
+
+/* Printing. */
+
+static void print_order(const struct history *history, size_t k)
+{
+    static const char *const kinds[8] = {"read", "write", "swap", "flush", "device read", "kind 5", "kind 6", "kind 7"};
+    struct second_order order = second_take_apart(history->orders[k].word, history->orders[k].operand);
+
+    printf("  order %zu: word 0x%" PRIx64 " operand 0x%" PRIx64 " (port %u %s line %u %s, mask 0x%02x, compare 0x%x)\n",
+           k + 1, history->orders[k].word, order.operand, order.port, kinds[order.kind], order.line,
+           order.mode == SECOND_BACK ? "back" : "through", order.mask, (unsigned)order.compare);
+}
+
+static void print_start(const struct history *history)
+{
+    const struct second_model *start = &history->start;
+    size_t entries = (size_t)(start->shape.ports * start->shape.sets);
+
+    printf("  shape %" PRIu64 " %" PRIu64 " %" PRIu64 ", %s start\n", start->shape.ports, start->shape.sets,
+           start->shape.lines, history->fresh ? "fresh" : "given");
+    for (size_t line = 0; line < start->shape.lines && start->shape.lines <= 16; line++)
+        printf("  memory %zu: 0x%" PRIx64 "\n", line, start->memory[line]);
+    for (size_t entry = 0; entry < entries && entries <= 16 && !history->fresh; entry++)
+        printf("  entry %zu: tag %" PRIu32 " state %u data 0x%" PRIx64 "\n", entry, start->tags[entry],
+               start->states[entry], start->data[entry]);
+}
+
+static void print_answer(const char *whose, struct second_answer answer)
+{
+    printf("  %s: refusal %" PRIu64 " value 0x%" PRIx64 " swapped %" PRIu64 " reads %" PRIu64 " writes %" PRIu64 "\n",
+           whose, answer.refusal, answer.value, answer.swapped, answer.reads, answer.writes);
+}
+
+void history_print(const struct history *history, const struct pair *pair)
+{
+    size_t shown = history->count < history->room ? history->count : history->room;
+    size_t first = shown > 40 ? shown - 40 : 0;
+
+    print_start(history);
+    if (first > 0)
+        printf("  orders 1 to %zu are not shown\n", first);
+    for (size_t k = first; k < shown; k++)
+        print_order(history, k);
+    if (shown > 0 && pair->slices[RESULT].length == SECOND_ANSWER_BYTES) {
+        print_answer("expected", pair->expected);
+        print_answer("got     ", second_decode_answer(pair->slices[RESULT].bytes));
+    }
+    printf("%s", pair->difference);
+}

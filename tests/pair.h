@@ -1,0 +1,75 @@
+/* The library and the second model side by side: each call is made to both, and every byte is compared after it. */
+
+#ifndef PAIR_H
+#define PAIR_H
+
+#include "second_model.h"
+
+enum {
+    LENT_GUARD = 64,       /* bytes kept on either side of a slice */
+    LENT_CAPACITY = 40960, /* the longest slice: main memory at 4,096 lines, and some more */
+    LENT_MAX_SKEW = 7      /* slices start at any alignment */
+};
+
+/* A slice lent to the library, in its room between guard bytes, and what it must hold after the call. */
+struct lent {
+    uint8_t *room;
+    uint8_t *bytes;
+    size_t length;
+    uint8_t *expected;
+};
+
+enum slice { MEMORY, TAGS, STATES, DATA, RESULT, SLICES };
+
+enum call { FRESH, STEP, AUDIT };
+
+/* What the calls have met, so that a run can show that it met everything. */
+struct tally {
+    uint64_t calls;
+    uint64_t fresh_refusals[9];
+    uint64_t step_refusals[9];
+    uint64_t audit_refusals[9];
+    uint64_t kinds[5];
+    uint64_t swapped;
+    uint64_t reads[2];
+    uint64_t writes[3];
+    uint64_t verdicts[2];
+    uint64_t devices_compared;
+    uint64_t devices_not_compared;
+};
+
+struct pair {
+    struct lent slices[SLICES];
+    int exact; /* slices lie in blocks of exactly their size, without guard bytes, for a memory checker to watch */
+    struct second_model second;
+    int stale;                     /* slices were placed whose bytes the second model has not taken over */
+    struct second_answer expected; /* of the last step */
+    struct tally tally;
+    char difference[600]; /* what differed after the last call; empty if nothing did */
+};
+
+/* Makes room for the slices; 0 if there is none. */
+int pair_open(struct pair *pair);
+void pair_close(struct pair *pair);
+
+/* Places a slice of a length at an alignment, with guard bytes around it. Its bytes are all the same. */
+void pair_place(struct pair *pair, enum slice slice, size_t length, unsigned skew);
+
+/* An empty slice with the pointer NULL. */
+void pair_place_null(struct pair *pair, enum slice slice);
+
+/* Places the slices that the second model's shape gives, and lends what the second model holds. */
+void pair_lend(struct pair *pair, unsigned skew);
+
+/* Makes a call to the library and to the second model; 1 if all is as expected. */
+int pair_call(struct pair *pair, enum call call, struct second_shape shape, uint64_t word, uint64_t operand);
+
+/* The three calls with the second model's shape and a result slice of the right length; 1 if all is as expected. */
+int pair_fresh(struct pair *pair);
+int pair_step(struct pair *pair, uint64_t word, uint64_t operand);
+int pair_audit(struct pair *pair);
+
+/* The verdict of the last audit, as the library gave it. */
+unsigned pair_verdict(const struct pair *pair);
+
+#endif

@@ -1,0 +1,95 @@
+/* The second model: document 01 in plain C, a line and its holders at a time, on arrays of its own. */
+
+#ifndef SECOND_MODEL_H
+#define SECOND_MODEL_H
+
+#include <stddef.h>
+#include <stdint.h>
+
+enum {
+    SECOND_MAX_PORTS = 8,
+    SECOND_MAX_SETS = 64,
+    SECOND_MAX_LINES = 4096,
+    SECOND_MAX_ENTRIES = SECOND_MAX_PORTS * SECOND_MAX_SETS,
+    SECOND_ANSWER_BYTES = 40,
+    SECOND_VERDICT_BYTES = 1
+};
+
+struct second_shape {
+    uint64_t ports;
+    uint64_t sets;
+    uint64_t lines;
+};
+
+/* The lengths in bytes of the slices of a call: main memory, the three tables, and the answer or the verdict. */
+struct second_lengths {
+    size_t memory;
+    size_t tags;
+    size_t states;
+    size_t data;
+    size_t result;
+};
+
+/* Main memory and the three tables, decoded. The shape must be in its range. */
+struct second_model {
+    struct second_shape shape;
+    uint64_t memory[SECOND_MAX_LINES];
+    uint32_t tags[SECOND_MAX_ENTRIES];
+    uint8_t states[SECOND_MAX_ENTRIES];
+    uint64_t data[SECOND_MAX_ENTRIES];
+};
+
+enum second_kind { SECOND_READ, SECOND_WRITE, SECOND_SWAP, SECOND_FLUSH, SECOND_DEVICE_READ };
+
+enum second_mode { SECOND_THROUGH, SECOND_BACK };
+
+/* The fields of an order word, with its operand. */
+struct second_order {
+    unsigned kind;
+    enum second_mode mode;
+    unsigned port;
+    unsigned mask;
+    unsigned line;
+    uint32_t compare;
+    uint64_t operand;
+};
+
+struct second_answer {
+    uint64_t refusal;
+    uint64_t value;
+    uint64_t swapped;
+    uint64_t reads;
+    uint64_t writes;
+};
+
+/* The fields of an order word. */
+struct second_order second_take_apart(uint64_t word, uint64_t operand);
+
+/* Refusals 4 to 7, from the shape and the order alone; 0 if none. */
+uint64_t second_order_refusal(struct second_shape shape, struct second_order order);
+
+/* Byte k of the operand where mask bit k is 1, else byte k of the word. */
+uint64_t second_merge(uint64_t word, uint64_t operand, unsigned mask);
+
+/* Whether a swap finds its compare value in the half that its mask names. */
+int second_swap_succeeds(struct second_order order, uint64_t word);
+
+/* Refusal 2 of a shape, else refusal 3 of the lengths of a call whose result slice has result bytes; 0 if none. */
+uint64_t second_call_refusal(struct second_shape shape, struct second_lengths lengths, size_t result);
+
+/* The lengths that a shape in its range gives; the result's is the caller's to say. */
+struct second_lengths second_lengths_of(struct second_shape shape, size_t result);
+
+/* The three calls on a shape in its range, beyond refusals 2 and 3. */
+void second_fresh(struct second_model *model);
+struct second_answer second_step(struct second_model *model, uint64_t word, uint64_t operand);
+int second_audit(const struct second_model *model);
+
+/* Little-endian bytes of the slices and the answer, decoded and encoded. */
+void second_decode(struct second_model *model, const uint8_t *memory, const uint8_t *tags, const uint8_t *states,
+                   const uint8_t *data);
+void second_encode(const struct second_model *model, uint8_t *memory, uint8_t *tags, uint8_t *states, uint8_t *data);
+void second_encode_answer(struct second_answer answer, uint8_t bytes[SECOND_ANSWER_BYTES]);
+struct second_answer second_decode_answer(const uint8_t bytes[SECOND_ANSWER_BYTES]);
+
+#endif

@@ -1,0 +1,191 @@
+#!/usr/bin/env python3
+"""Tests the program trace: its output against the second model's and against literal text; prints a line per test."""
+
+import argparse
+import random
+import shlex
+import struct
+import subprocess
+import sys
+import time
+
+EXAMPLE = b"""ports 2 sets 1 lines 2 orders 3
+1 0 0 0 1 0
+2 0 9 0 0 1
+3 5 0 0 0 0
+audit 1
+"""
+
+READ, WRITE, SWAP, FLUSH, DEVICE_READ = range(5)
+MOST_ORDERS = 2048
+
+
+def word(kind, mode=0, port=0, mask=0, line=0, compare=0):
+    return kind | mode << 3 | port << 4 | mask << 8 | line << 16 | compare << 32
+
+
+def trace(ports, sets, lines, orders, said=None):
+    """The bytes of a trace; orders are pairs of word and operand."""
+    head = struct.pack("<4I", ports, sets, lines, len(orders) if said is None else said)
+    words = b"".join(struct.pack("<Q", order[0]) for order in orders)
+    operands = b"".join(struct.pack("<Q", order[1]) for order in orders)
+    return head + words + operands
+
+
+def random_order(dice, ports, sets, lines):
+    kind = dice.choices(range(8), (20, 20, 20, 8, 12, 1, 1, 1))[0]
+    port = dice.randrange(ports) if dice.random() < 0.95 else dice.randrange(16)
+    line = dice.randrange(min(lines, 2 * sets + 2)) if dice.random() < 0.8 else dice.randrange(lines)
+    if dice.random() < 0.03:
+        line = dice.randrange(65536)
+    mask = dice.choice((0x0F, 0xF0)) if kind == SWAP and dice.random() < 0.95 else dice.randrange(256)
+    compare = dice.choice((0, 0, 1, 2, dice.getrandbits(32)))
+    operand = dice.choice((0, 1, 1 << 32, 2, dice.getrandbits(64)))
+    return word(kind, dice.randrange(2), port, mask, line, compare), operand
+
+
+def random_trace(dice, count=None):
+    ports = dice.randint(1, 8)
+    sets = 1 << dice.randrange(7)
+    lines = dice.choice((1, 2, 5, sets, 2 * sets, 64, 1000, 4095, 4096))
+    count = dice.randrange(60) if count is None else count
+    return trace(ports, sets, lines, [random_order(dice, ports, sets, lines) for _ in range(count)])
+
+
+class Tester:
+    def __init__(self, name, program, expected, timeout, first):
+        self.name = name
+        self.program = program
+        self.expected = expected
+        self.timeout = timeout
+        self.first = first
+        self.failed = 0
+        self.runs = 0
+
+    def run(self, command, data):
+        done = subprocess.run(command, input=data, stdout=subprocess.PIPE, stderr=subprocess.PIPE, timeout=self.timeout)
+        return done.returncode, done.stdout, done.stderr
+
+    def agrees(self, data, literal=None):
+        """Whether the program ends and prints what the second model prints, and the literal text if there is one."""
+        self.runs += 1
+        try:
+            status, out, err = self.run(self.program, data)
+        except subprocess.TimeoutExpired:
+            print(f"  no end after {self.timeout} s on {len(data)} bytes: {data[:64].hex()}")
+            return False
+        wanted = self.run(self.expected, data)[1]
+        if literal is not None and wanted != literal:
+            print(f"  the second model prints {wanted[:200]!r}, not {literal[:200]!r}")
+            return False
+        # A status below 0 is a signal; 9 is what a memory checker is told to end with.
+        if status < 0 or status == 9 or out != wanted:
+            print(f"  on {len(data)} bytes, {data[:64].hex()}: status {status}")
+            print(f"  expected {wanted[:300]!r}\n  got      {out[:300]!r}\n  {err[:300]!r}")
+            return False
+        return True
+
+    def test(self, name, outcomes):
+        fine = all(outcomes)
+        self.failed += not fine
+        print(f"{'ok' if fine else 'FAILED'} {self.name}: {name}", flush=True)
+        if self.first and not fine:
+            sys.exit(1)
+
+    def in_pieces(self, data, size, pause):
+        """Feeds the trace in pieces, so that a read gets less than it asks for."""
+        self.runs += 1
+        child = subprocess.Popen(self.program, stdin=subprocess.PIPE, stdout=subprocess.PIPE)
+        for start in range(0, len(data), size):
+            child.stdin.write(data[start:start + size])
+            child.stdin.flush()
+            time.sleep(pause)
+        child.stdin.close()
+        out = child.stdout.read()
+        return child.wait(self.timeout) >= 0 and out == self.run(self.expected, data)[1]
+
+
+def lengths(tester, dice):
+    """Refusal 1: by the length."""
+    refused = b"refused 1\n"
+    example = trace(2, 1, 2, [(0xFF09, 9), (0x10, 0), (0x20, 0)])
+    longer = random_trace(dice, 10)
+    full = random_trace(dice, MOST_ORDERS)
+    tester.test("empty input", [tester.agrees(b"", refused)])
+    tester.test("every cut of the first 64 bytes",
+                (tester.agrees(data[:cut], refused) for data in (example, longer) for cut in range(64)))
+    tester.test("longer by 1, 16 and 100,000 bytes",
+                (tester.agrees(data + b"\0" * more, refused)
+                 for data in (example, longer, full, trace(2, 1, 2, [])) for more in (1, 16, 100000)))
+    tester.test("shorter by 1 and by 16 bytes",
+                (tester.agrees(data[:-less], refused) for data in (example, longer, full) for less in (1, 16)))
+    tester.test("another number of orders than there are",
+                (tester.agrees(trace(2, 1, 2, [(0x10, 0)] * count, said), refused)
+                 for count in (0, 1, 2, 16) for said in (3, 17, 2048, 2049, 1 << 28, (1 << 28) + 1, (1 << 32) - 1)))
+    tester.test("2,049 orders and more, all there",
+                (tester.agrees(trace(2, 1, 2, [(0x10, 0)] * count), refused) for count in (2049, 4096, 65536)))
+
+
+def shapes(tester):
+    """Refusal 2, and refusal 1 before it."""
+    wrong = [(0, 1, 1), (9, 1, 1), (2 ** 32 - 1, 1, 1), (257, 1, 1), (1, 0, 1), (1, 3, 1), (1, 65, 1), (1, 128, 1),
+             (1, 2 ** 31, 1), (1, 1, 0), (1, 1, 4097), (1, 1, 2 ** 32 - 1), (1, 1, 65537), (0, 0, 0),
+             (2 ** 32 - 1, 2 ** 32 - 1, 2 ** 32 - 1)]
+    tester.test("refused 2, each number of the shape",
+                (tester.agrees(trace(*shape, [(0x10, 0)] * count), b"refused 2\n")
+                 for shape in wrong for count in (0, 1, 3)))
+    tester.test("refused 1 before refused 2",
+                (tester.agrees(trace(*shape, [(0x10, 0)] * 2, said), b"refused 1\n")
+                 for shape in wrong for said in (1, 3, 2049)))
+
+
+def orders(tester, dice):
+    """Orders that are refused, and the numbers of orders at their ends."""
+    refused = [(word(5), 0), (word(6), 0), (word(7), 0), (word(READ, port=2), 0), (word(FLUSH, port=15), 0),
+               (word(READ, line=2), 0), (word(DEVICE_READ, port=15, line=65535), 0), (word(SWAP, mask=0xFF), 0),
+               (word(SWAP, mask=0x0E), 0), (word(7, port=9, mask=3, line=9), 0), (word(SWAP, port=9, mask=3, line=9), 0),
+               (word(SWAP, port=1, mask=3, line=9), 0), (word(DEVICE_READ, port=15), 0)]
+    numbers = [4, 4, 4, 5, 5, 6, 6, 7, 7, 4, 5, 6]
+    literal = "ports 2 sets 1 lines 2 orders 13\n"
+    literal += "".join(f"{k + 1} {number} 0 0 0 0\n" for k, number in enumerate(numbers))
+    literal += "13 0 0 0 1 0\naudit 1\n"
+    tester.test("orders refused 4, 5, 6 and 7", [tester.agrees(trace(2, 1, 2, refused), literal.encode())])
+    tester.test("no orders", (tester.agrees(trace(*shape, []), b"ports %d sets %d lines %d orders 0\naudit 1\n" % shape)
+                              for shape in ((1, 1, 1), (2, 1, 2), (8, 64, 4096))))
+    tester.test("2,048 orders", (tester.agrees(random_trace(dice, MOST_ORDERS)) for _ in range(6)))
+    largest = 2 ** 64 - 1
+    tester.test("the largest numbers",
+                [tester.agrees(trace(1, 1, 1, [(word(WRITE, 1, mask=0xFF), largest), (0, 0)]),
+                               b"ports 1 sets 1 lines 1 orders 2\n1 0 0 0 1 0\n2 0 18446744073709551615 0 0 1\naudit 1\n")])
+
+
+def main():
+    parser = argparse.ArgumentParser()
+    parser.add_argument("program", help="the program trace")
+    parser.add_argument("expected", help="the program over the second model")
+    parser.add_argument("--name", default="trace", help="what the tests are called by")
+    parser.add_argument("--wrap", default="", help="a command to run the program under")
+    parser.add_argument("--random", type=int, default=300, help="random traces")
+    parser.add_argument("--seed", type=int, default=1)
+    parser.add_argument("--timeout", type=float, default=60, help="seconds in which the program must end")
+    parser.add_argument("--first", action="store_true", help="stop at the first test that fails")
+    parser.add_argument("--short", action="store_true", help="the example, the ends and the random traces only")
+    chosen = parser.parse_args()
+    program = shlex.split(chosen.wrap) + [chosen.program]
+    tester = Tester(chosen.name, program, [chosen.expected], chosen.timeout, chosen.first)
+    dice = random.Random(chosen.seed)
+    example = trace(2, 1, 2, [(0xFF09, 9), (0x10, 0), (0x20, 0)])
+    tester.test("document 01's example, byte for byte", [tester.agrees(example, EXAMPLE)])
+    if not chosen.short:
+        lengths(tester, dice)
+        shapes(tester)
+        tester.test("a trace that comes in pieces",
+                    (tester.in_pieces(data, size, 0.002) for data in (example, example[:40], random_trace(dice, 20))
+                     for size in (1, 7, 16)))
+    orders(tester, dice)
+    tester.test("random traces", (tester.agrees(random_trace(dice)) for _ in range(chosen.random)))
+    print(f"  {tester.runs} traces, seed {chosen.seed}")
+    sys.exit(tester.failed != 0)
+
+
+main()
