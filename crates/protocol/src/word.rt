@@ -12,10 +12,13 @@ fn pick(bit: u8, x: u64, w: u64) -> u64
     if bit == 1 { x % 256 } else { w % 256 }
 }
 
-// The word w with byte k of the operand x where bit k of the mask is 1.
+// The word w with byte k of the operand x where bit k of the mask is 1. The whole word is the common case.
 pub fn merged(mask: u8, w: u64, x: u64) -> u64
     ensures { λ r. ⌜ r ≡ merge mask w x ⌝ }
 {
+    if mask == 0xFF {
+        return x;
+    }
     let b0 = pick(mask % 2, x, w);
     let b1 = pick(mask / 2 % 2, x / 256, w / 256);
     let b2 = pick(mask / 4 % 2, x / 65536, w / 65536);
