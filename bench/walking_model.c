@@ -1,4 +1,4 @@
-/* The walking model: one pass over the ports of the lent byte tables, then the rules; the library's yardstick. */
+/* The walking model: one pass over the ports of the lent byte tables, then the rules. The library is timed against it. */
 
 #include "walking_model.h"
 

@@ -72,6 +72,7 @@ int main(void)
 
     printf("port 0 fills lines %d to %d in write back\n", BUFFER, BUFFER + BUFFER_LINES - 1);
     fill(1, MOESI_WRITE_BACK);
+    /* Lines 4 to 7 were evicted by lines 8 to 11, and so stored; lines 8 to 11 are only in port 0's cache. */
     before = device_reads_right(1);
     printf("port 0 flushes the buffer: ");
     printf("%" PRIu64 " words stored\n", flush_buffer());
@@ -90,6 +91,5 @@ int main(void)
     moesi_audit(PORTS, SETS, LINES, memory, sizeof memory, tags, sizeof tags, states, sizeof states, data, sizeof data,
                 &verdict, sizeof verdict);
     printf("audit: %s\n", verdict == 1 ? "yes" : "no");
-    /* Lines 4 to 7 were pushed out by lines 8 to 11, which is luck; lines 8 to 11 are still in the cache alone. */
     return !before && after && through && read_through && verdict == 1 ? 0 : 1;
 }

@@ -1,4 +1,4 @@
-/* The way in from C to the proved MOESI cache model: three calls, the numbers they speak in, and small helpers. */
+/* The C interface of the proved MOESI cache model: three calls, the numbers they speak in, and small helpers. */
 
 /*
  * The model
@@ -13,13 +13,14 @@
  *   states   ports * sets entries of 1 byte   the state of each entry
  *   data     ports * sets entries of 8 bytes  the word of each entry
  *
- * Every word, tag and number is little-endian in these bytes, on every host.
+ * Every word, tag and number is little-endian in these bytes. The host has
+ * 64-bit addresses.
  * Line a has index a mod sets and tag a div sets; port p's entry for it is
- * number p * sets + index of each table. An entry that is not invalid holds its
+ * number p * sets + index of each table. An entry that is not invalid has a
  * home line, tag * sets + index. The slices need no alignment.
  *
  * Nothing is kept between calls: all that a call knows are its numbers and the
- * contents of its slices. Two models are two sets of slices. Calls on separate
+ * contents of its slices. Two models are two groups of slices. Calls on separate
  * slices may run at the same time.
  *
  * What a call may not do
@@ -49,8 +50,8 @@
  *   7  the mask of a swap is neither 0x0F nor 0xF0
  *   8  at the line's index, some port's entry has a byte that is no state, or
  *      isn't invalid and has a home line not below lines (not asked of a device
- *      read). A model that starts fresh and is written by moesi_step alone
- *      never gives it.
+ *      read). A model that starts fresh, and whose memory and tables nobody
+ *      but moesi_step writes, never gives it.
  *
  * A refused call changes no lent byte but the answer (number and four zeros) or
  * the verdict (0). An answer or a verdict of another length is left alone.
@@ -59,17 +60,16 @@
  * ------------------
  *
  * A device reads main memory behind the caches, so a word that a port wrote in
- * write back may not be there yet. For a model that starts fresh and is written
- * by moesi_step alone this is proved: a device read of a line is right (it gives
+ * write back may not be there yet. For a model that starts fresh, and whose
+ * memory and tables nobody but moesi_step writes, this is proved: a device read of a line is right (it gives
  * the word that a port would read) with no flush, unless the line was written
  * in write back, by a write or by a swap that succeeded, since its last
  * write-through access by any port (a read, a write or a swap, successful or
  * not) or, without such an access, since the start. The rule looks at the
- * accesses alone: a flush does not count as a write-through access, and does
- * not clear the mark that the flat memory of the proof keeps. What a flush does
+ * accesses alone: a flush does not count as a write-through access. What it does
  * is store the word if the port that flushes owns the line (state O or M); so
  * once every holder that owns the line has flushed it, memory has the word,
- * until the next write in write back. A flush by a port that doesn't hold the
+ * until the next write, or swap that succeeds, in write back. A flush by a port that doesn't hold the
  * line changes nothing: to be sure, flush the line from every port, or read it
  * once in write through from any port.
  */
@@ -212,7 +212,9 @@ static inline struct moesi_sizes moesi_sizes_of(uint64_t ports, uint64_t sets, u
  * Order words. Bits 0-2 kind, 3 mode, 4-7 port, 8-15 byte mask, 16-31 line,
  * 32-63 compare value. A port or a line too large for its field becomes the
  * field's largest number, which no shape has, so that the order is refused and
- * never lands on another port or line. Any mode but 0 is write back.
+ * never lands on another port or line; a kind above 7 becomes 7, which is
+ * refused too. Mask and compare value are cut to their fields. Any mode but 0
+ * is write back.
  */
 
 static inline uint64_t moesi_order_word(uint64_t kind, uint64_t mode, uint64_t port, uint64_t line,
@@ -222,7 +224,7 @@ static inline uint64_t moesi_order_word(uint64_t kind, uint64_t mode, uint64_t p
     uint64_t line_field = line < 65535 ? line : 65535;
     uint64_t mode_field = mode != MOESI_WRITE_THROUGH;
 
-    return (kind & 7) | mode_field << 3 | port_field << 4 | (mask & 255) << 8 | line_field << 16 |
+    return (kind < 7 ? kind : 7) | mode_field << 3 | port_field << 4 | (mask & 255) << 8 | line_field << 16 |
            (compare & UINT64_C(0xFFFFFFFF)) << 32;
 }
 
@@ -254,13 +256,13 @@ static inline uint64_t moesi_order_swap_upper(uint64_t port, uint64_t line, uint
     return moesi_order_word(MOESI_SWAP, mode, port, line, MOESI_UPPER_HALF, compare);
 }
 
-/* The port gives its copy of the line up; an owned or modified word is stored in memory first. */
+/* The port gives its copy of the line up; an owned or modified word is stored in memory first. The operand is ignored. */
 static inline uint64_t moesi_order_flush(uint64_t port, uint64_t line)
 {
     return moesi_order_word(MOESI_FLUSH, 0, port, line, 0, 0);
 }
 
-/* A device reads the line behind the caches: value is memory's word, whatever the caches hold. */
+/* A device reads the line behind the caches: value is memory's word, whatever the caches hold. The operand is ignored. */
 static inline uint64_t moesi_order_device_read(uint64_t line)
 {
     return moesi_order_word(MOESI_DEVICE_READ, 0, 0, line, 0, 0);

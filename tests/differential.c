@@ -20,13 +20,13 @@ struct tester {
     uint64_t run;     /* the only run of it; UINT64_MAX for all */
     int first;        /* stop at the first group that fails */
     int exact;        /* slices without guard bytes, for a memory checker */
-    struct dice dice;
+    struct generator generator;
     struct pair pair;
     struct history history;
     struct traffic traffic;
 };
 
-/* A group of checks: its runs are numbered, and each has its own dice, so that one can be run alone. */
+/* A group of checks: its runs are numbered, and each has its own generator, so that one can be run alone. */
 struct group {
     const char *name;
     int (*run)(struct tester *tester, uint64_t run);
@@ -72,7 +72,7 @@ static const struct literal fourteen[14] = {
     {0x000000010001F01A, 0, {0, 255, 0, 1, 0}, {0, 10}, {4, 255}},
     {0x0000000000010019, 0, {0, 0, 0, 0, 0}, {0, 12}, {4, 255}},
     {0x000000010001F002, 0, {0, 255, 0, 0, 1}, {2, 0}, {4, 255}},
-    {0x0000000000000020, 0, {5, 0, 0, 0, 0}, {0, 9}, {4, 255}},
+    {0x0000000000000020, 0, {5, 0, 0, 0, 0}, {0, 0}, {4, 255}},
 };
 
 /* The state in which a port of the shape 2/1/2 holds a line, by the lent bytes. */
@@ -93,8 +93,7 @@ static int is_literal(const struct pair *pair, const struct literal *literal)
     memory[8] = (uint8_t)literal->memory[1];
     return memcmp(&answer, &literal->answer, sizeof answer) == 0 &&
            memcmp(memory, pair->slices[MEMORY].bytes, sizeof memory) == 0 &&
-           (literal->answer.refusal != 0 || (state_held(pair, 0, line) == literal->states[0] &&
-                                             state_held(pair, 1, line) == literal->states[1]));
+           state_held(pair, 0, line) == literal->states[0] && state_held(pair, 1, line) == literal->states[1];
 }
 
 /* Carries one of the fourteen out and holds it against the list; the audit says yes after it. */
@@ -119,7 +118,7 @@ static int fourteen_orders(struct tester *tester, uint64_t run)
 
     (void)run;
     history->start.shape = shape;
-    traffic_fill_tables(&tester->dice, &history->start);
+    traffic_fill_tables(&tester->generator, &history->start);
     history->start.memory[0] = 5;
     history->start.memory[1] = 7;
     history->fresh = 1;
@@ -286,10 +285,10 @@ static void begin_traffic(struct tester *tester, struct second_shape shape)
 {
     struct second_model *start = &tester->history.start;
 
-    traffic_begin(&tester->traffic, &tester->dice, shape);
+    traffic_begin(&tester->traffic, &tester->generator, shape);
     start->shape = shape;
-    traffic_fill_memory(&tester->traffic, &tester->dice, start);
-    tester->history.skew = dice_below(&tester->dice, 8);
+    traffic_fill_memory(&tester->traffic, &tester->generator, start);
+    tester->history.skew = generator_below(&tester->generator, 8);
     tester->history.audit_every = audit_every(shape);
 }
 
@@ -312,8 +311,8 @@ static int run_history(struct tester *tester, int fresh, size_t orders)
     if (!history_begin(history, pair))
         return report_history(tester);
     for (size_t k = 0; k < orders; k++) {
-        uint64_t word = traffic_order(&tester->traffic, &tester->dice, &pair->second);
-        uint64_t operand = traffic_operand(&tester->traffic, &tester->dice);
+        uint64_t word = traffic_order(&tester->traffic, &tester->generator, &pair->second);
+        uint64_t operand = traffic_operand(&tester->traffic, &tester->generator);
 
         if (!history_add(history, pair, word, operand))
             return report_history(tester);
@@ -324,20 +323,20 @@ static int run_history(struct tester *tester, int fresh, size_t orders)
 static int fresh_history(struct tester *tester, struct second_shape shape, size_t orders)
 {
     begin_traffic(tester, shape);
-    traffic_fill_tables(&tester->dice, &tester->history.start);
+    traffic_fill_tables(&tester->generator, &tester->history.start);
     return run_history(tester, 1, orders);
 }
 
 static int small_histories(struct tester *tester, uint64_t run)
 {
     (void)run;
-    return fresh_history(tester, traffic_small_shape(&tester->dice), 60 + dice_below(&tester->dice, 200));
+    return fresh_history(tester, traffic_small_shape(&tester->generator), 60 + generator_below(&tester->generator, 200));
 }
 
 static int all_histories(struct tester *tester, uint64_t run)
 {
     (void)run;
-    return fresh_history(tester, traffic_any_shape(&tester->dice), 100 + dice_below(&tester->dice, 500));
+    return fresh_history(tester, traffic_any_shape(&tester->generator), 100 + generator_below(&tester->generator, 500));
 }
 
 /* A few shapes that stand at an edge, each run longer. */
@@ -353,18 +352,18 @@ static int long_histories(struct tester *tester, uint64_t run)
 /* Damage to the tables of a history, then orders, then damage again: on tables that fail the audit too. */
 static int damaged_tables(struct tester *tester, uint64_t run)
 {
-    struct second_shape shape = run % 4 < 3 ? traffic_small_shape(&tester->dice) : traffic_any_shape(&tester->dice);
-    unsigned rounds = 1 + dice_below(&tester->dice, 12);
+    struct second_shape shape = run % 4 < 3 ? traffic_small_shape(&tester->generator) : traffic_any_shape(&tester->generator);
+    unsigned rounds = 1 + generator_below(&tester->generator, 12);
 
-    if (!fresh_history(tester, shape, 20 + dice_below(&tester->dice, 60)))
+    if (!fresh_history(tester, shape, 20 + generator_below(&tester->generator, 60)))
         return 0;
     for (unsigned round = 0; round < rounds; round++) {
-        unsigned damages = 1 + dice_below(&tester->dice, 3);
+        unsigned damages = 1 + generator_below(&tester->generator, 3);
 
         tester->history.start = tester->pair.second;
         for (unsigned k = 0; k < damages; k++)
-            traffic_damage(&tester->traffic, &tester->dice, &tester->history.start);
-        if (!run_history(tester, 0, dice_below(&tester->dice, 12)))
+            traffic_damage(&tester->traffic, &tester->generator, &tester->history.start);
+        if (!run_history(tester, 0, generator_below(&tester->generator, 12)))
             return 0;
     }
     return 1;
@@ -372,12 +371,12 @@ static int damaged_tables(struct tester *tester, uint64_t run)
 
 static int noise(struct tester *tester, uint64_t run)
 {
-    struct second_shape shape = run % 8 < 7 ? traffic_small_shape(&tester->dice) : traffic_any_shape(&tester->dice);
+    struct second_shape shape = run % 8 < 7 ? traffic_small_shape(&tester->generator) : traffic_any_shape(&tester->generator);
 
     begin_traffic(tester, shape);
     tester->traffic.odd_percent = 20;
-    traffic_noise(&tester->traffic, &tester->dice, &tester->history.start);
-    return run_history(tester, 0, 10 + dice_below(&tester->dice, 30));
+    traffic_noise(&tester->traffic, &tester->generator, &tester->history.start);
+    return run_history(tester, 0, 10 + generator_below(&tester->generator, 30));
 }
 
 /* Shapes. */
@@ -397,7 +396,7 @@ static int every_shape(struct tester *tester, uint64_t run)
         for (unsigned log = 0; log <= 6; log++) {
             struct second_shape shape = {ports, 1u << log, lines_of_step(run)};
 
-            if (!fresh_history(tester, shape, 3 + dice_below(&tester->dice, 5)))
+            if (!fresh_history(tester, shape, 3 + generator_below(&tester->generator, 5)))
                 return 0;
         }
     }
@@ -411,13 +410,13 @@ static int make_calls(struct tester *tester, struct second_shape shape)
 {
     static const size_t results[8] = {40, 1, 0, 39, 41, 2, 8, 80};
     struct pair *pair = &tester->pair;
-    uint64_t word = dice_percent(&tester->dice, 50) ? dice_word(&tester->dice) : 0x0F08;
+    uint64_t word = generator_percent(&tester->generator, 50) ? generator_word(&tester->generator) : 0x0F08;
 
     if (!pair_call(pair, FRESH, shape, 0, 0))
         return report_call(tester, "fresh", shape, 0, 0);
     for (size_t k = 0; k < 8; k++) {
-        if (dice_percent(&tester->dice, 50))
-            pair_place(pair, RESULT, results[k], dice_below(&tester->dice, 8));
+        if (generator_percent(&tester->generator, 50))
+            pair_place(pair, RESULT, results[k], generator_below(&tester->generator, 8));
         else if (results[k] == 0)
             pair_place_null(pair, RESULT);
         else
@@ -430,13 +429,13 @@ static int make_calls(struct tester *tester, struct second_shape shape)
     return 1;
 }
 
-static size_t wrong_length(struct dice *dice, size_t length, size_t entry)
+static size_t wrong_length(struct generator *generator, size_t length, size_t entry)
 {
     size_t lengths[9] = {length - 1, length + 1, length - entry, length + entry, length / 2, 2 * length, 0, 1, entry};
-    size_t chosen = lengths[dice_below(dice, 9)];
+    size_t chosen = lengths[generator_below(generator, 9)];
 
-    if (dice_percent(dice, 10))
-        chosen = dice_below(dice, 3 * length);
+    if (generator_percent(generator, 10))
+        chosen = generator_below(generator, 3 * length);
     return chosen <= LENT_CAPACITY ? chosen : length + 1;
 }
 
@@ -447,29 +446,29 @@ static void place_wrongly(struct tester *tester, struct second_shape shape, unsi
     struct second_model *start = &tester->history.start;
 
     start->shape = shape;
-    traffic_fill_tables(&tester->dice, start);
+    traffic_fill_tables(&tester->generator, start);
     tester->pair.second = *start;
-    pair_lend(&tester->pair, dice_below(&tester->dice, 8));
+    pair_lend(&tester->pair, generator_below(&tester->generator, 8));
     for (unsigned s = MEMORY; s <= DATA; s++) {
         size_t length = tester->pair.slices[s].length;
 
         if (!(wrong >> s & 1))
             continue;
-        length = wrong_length(&tester->dice, length, entry_bytes[s]);
-        if (length == 0 && dice_percent(&tester->dice, 50))
+        length = wrong_length(&tester->generator, length, entry_bytes[s]);
+        if (length == 0 && generator_percent(&tester->generator, 50))
             pair_place_null(&tester->pair, (enum slice)s);
         else
-            pair_place(&tester->pair, (enum slice)s, length, dice_below(&tester->dice, 8));
+            pair_place(&tester->pair, (enum slice)s, length, generator_below(&tester->generator, 8));
     }
 }
 
 /* One slice, several or none has another length than the shape gives; the results too. */
 static int wrong_lengths(struct tester *tester, uint64_t run)
 {
-    struct dice *dice = &tester->dice;
-    struct second_shape shape = run % 2 ? traffic_any_shape(dice) : traffic_small_shape(dice);
+    struct generator *generator = &tester->generator;
+    struct second_shape shape = run % 2 ? traffic_any_shape(generator) : traffic_small_shape(generator);
 
-    place_wrongly(tester, shape, run % 3 ? 1u << dice_below(dice, 4) : dice_below(dice, 16));
+    place_wrongly(tester, shape, run % 3 ? 1u << generator_below(generator, 4) : generator_below(generator, 16));
     return make_calls(tester, shape);
 }
 
@@ -501,32 +500,32 @@ static const uint64_t odd_lines[] = {0, 4097, 4098, 8192, 65535, 65536, 65537, U
                                      UINT64_C(1) << 63, UINT64_MAX, UINT64_MAX - 4095};
 
 /* A number out of its range, or now and then any 64 bits. */
-static uint64_t odd_number(struct dice *dice, const uint64_t *numbers, size_t count)
+static uint64_t odd_number(struct generator *generator, const uint64_t *numbers, size_t count)
 {
-    return dice_percent(dice, 10) ? dice_word(dice) : numbers[dice_below(dice, count)];
+    return generator_percent(generator, 10) ? generator_word(generator) : numbers[generator_below(generator, count)];
 }
 
 /* Shapes with numbers out of their ranges. The slices are those of a shape in range: of the shape itself with numbers
    cut to a few bits where that is one, so that a model that loses the upper bits would take the call. */
 static int odd_shapes(struct tester *tester, uint64_t run)
 {
-    struct dice *dice = &tester->dice;
-    struct second_shape lent = traffic_small_shape(dice), odd = lent;
+    struct generator *generator = &tester->generator;
+    struct second_shape lent = traffic_small_shape(generator), odd = lent;
     unsigned which = 1 + (unsigned)(run % 7);
 
     if (which & 1)
-        odd.ports = odd_number(dice, odd_ports, sizeof odd_ports / sizeof odd_ports[0]);
+        odd.ports = odd_number(generator, odd_ports, sizeof odd_ports / sizeof odd_ports[0]);
     if (which & 2)
-        odd.sets = odd_number(dice, odd_sets, sizeof odd_sets / sizeof odd_sets[0]);
+        odd.sets = odd_number(generator, odd_sets, sizeof odd_sets / sizeof odd_sets[0]);
     if (which & 4)
-        odd.lines = odd_number(dice, odd_lines, sizeof odd_lines / sizeof odd_lines[0]);
+        odd.lines = odd_number(generator, odd_lines, sizeof odd_lines / sizeof odd_lines[0]);
     if ((uint32_t)odd.ports - 1 < 8)
         lent.ports = (uint32_t)odd.ports;
     if ((uint32_t)odd.lines - 1 < 4096)
         lent.lines = (uint32_t)odd.lines;
     if ((uint32_t)odd.sets == 1 || (uint32_t)odd.sets == 64)
         lent.sets = (uint32_t)odd.sets;
-    place_wrongly(tester, lent, run % 5 == 0 ? dice_below(dice, 16) : 0);
+    place_wrongly(tester, lent, run % 5 == 0 ? generator_below(generator, 16) : 0);
     return make_calls(tester, odd);
 }
 
@@ -540,7 +539,7 @@ static int shapes_with_their_lengths(struct tester *tester, uint64_t run)
     size_t due[4] = {lengths.memory, lengths.tags, lengths.states, lengths.data};
 
     for (unsigned s = MEMORY; s <= DATA; s++)
-        pair_place(&tester->pair, (enum slice)s, due[s], dice_below(&tester->dice, 8));
+        pair_place(&tester->pair, (enum slice)s, due[s], generator_below(&tester->generator, 8));
     return make_calls(tester, shape);
 }
 
@@ -552,7 +551,7 @@ static const struct group groups[] = {
     {"histories from fresh, small shapes", small_histories, 4000, 1},
     {"histories from fresh, all shapes", all_histories, 500, 1},
     {"long histories from fresh", long_histories, 6, 1},
-    {"every shape", every_shape, 202, 1},
+    {"every number of ports and sets", every_shape, 202, 1},
     {"damaged tables", damaged_tables, 6000, 1},
     {"noise", noise, 12000, 1},
     {"wrong lengths", wrong_lengths, 8000, 1},
@@ -570,12 +569,12 @@ static uint64_t runs_of(const struct group *group, uint64_t percent)
     return runs > 0 ? runs : 1;
 }
 
-/* One run of a group with its own dice. */
+/* One run of a group with its own generator. */
 static int run_once(struct tester *tester, size_t number, uint64_t run)
 {
-    struct dice dice = {tester->seed * UINT64_C(0xD1342543DE82EF95) + number};
+    struct generator generator = {tester->seed * UINT64_C(0xD1342543DE82EF95) + number};
 
-    tester->dice.state = dice_word(&dice) + run * UINT64_C(0xDA942042E4DD58B5);
+    tester->generator.state = generator_word(&generator) + run * UINT64_C(0xDA942042E4DD58B5);
     if (groups[number].run(tester, run))
         return 1;
     printf("  seed %" PRIu64 ", group %zu, run %" PRIu64 "; again: --seed %" PRIu64 " --group %zu --run %" PRIu64 "\n",

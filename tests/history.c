@@ -90,7 +90,7 @@ int history_end(struct history *history, struct pair *pair)
     return audit(history, pair);
 }
 
-/* Carries the first count orders of a list out from the start, an audit after each; 1 if one of them fails. */
+/* Carries the first count orders of a list out from the start, with the audits of the run; 1 if one of them fails. */
 static int replay_fails(struct history *history, struct pair *pair, const struct history_order *orders, size_t count)
 {
     size_t k = 0;

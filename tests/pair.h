@@ -43,7 +43,7 @@ struct pair {
     int exact; /* slices lie in blocks of exactly their size, without guard bytes, for a memory checker to watch */
     struct second_model second;
     int stale;                     /* slices were placed whose bytes the second model has not taken over */
-    struct second_answer expected; /* of the last step */
+    struct second_answer expected; /* of the last call */
     struct tally tally;
     char difference[600]; /* what differed after the last call; empty if nothing did */
 };

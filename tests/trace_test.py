@@ -32,24 +32,24 @@ def trace(ports, sets, lines, orders, said=None):
     return head + words + operands
 
 
-def random_order(dice, ports, sets, lines):
-    kind = dice.choices(range(8), (20, 20, 20, 8, 12, 1, 1, 1))[0]
-    port = dice.randrange(ports) if dice.random() < 0.95 else dice.randrange(16)
-    line = dice.randrange(min(lines, 2 * sets + 2)) if dice.random() < 0.8 else dice.randrange(lines)
-    if dice.random() < 0.03:
-        line = dice.randrange(65536)
-    mask = dice.choice((0x0F, 0xF0)) if kind == SWAP and dice.random() < 0.95 else dice.randrange(256)
-    compare = dice.choice((0, 0, 1, 2, dice.getrandbits(32)))
-    operand = dice.choice((0, 1, 1 << 32, 2, dice.getrandbits(64)))
-    return word(kind, dice.randrange(2), port, mask, line, compare), operand
+def random_order(generator, ports, sets, lines):
+    kind = generator.choices(range(8), (20, 20, 20, 8, 12, 1, 1, 1))[0]
+    port = generator.randrange(ports) if generator.random() < 0.95 else generator.randrange(16)
+    line = generator.randrange(min(lines, 2 * sets + 2)) if generator.random() < 0.8 else generator.randrange(lines)
+    if generator.random() < 0.03:
+        line = generator.randrange(65536)
+    mask = generator.choice((0x0F, 0xF0)) if kind == SWAP and generator.random() < 0.95 else generator.randrange(256)
+    compare = generator.choice((0, 0, 1, 2, generator.getrandbits(32)))
+    operand = generator.choice((0, 1, 1 << 32, 2, generator.getrandbits(64)))
+    return word(kind, generator.randrange(2), port, mask, line, compare), operand
 
 
-def random_trace(dice, count=None):
-    ports = dice.randint(1, 8)
-    sets = 1 << dice.randrange(7)
-    lines = dice.choice((1, 2, 5, sets, 2 * sets, 64, 1000, 4095, 4096))
-    count = dice.randrange(60) if count is None else count
-    return trace(ports, sets, lines, [random_order(dice, ports, sets, lines) for _ in range(count)])
+def random_trace(generator, count=None):
+    ports = generator.randint(1, 8)
+    sets = 1 << generator.randrange(7)
+    lines = generator.choice((1, 2, 5, sets, 2 * sets, 64, 1000, 4095, 4096))
+    count = generator.randrange(60) if count is None else count
+    return trace(ports, sets, lines, [random_order(generator, ports, sets, lines) for _ in range(count)])
 
 
 class Tester:
@@ -105,12 +105,12 @@ class Tester:
         return child.wait(self.timeout) >= 0 and out == self.run(self.expected, data)[1]
 
 
-def lengths(tester, dice):
+def lengths(tester, generator):
     """Refusal 1: by the length."""
     refused = b"refused 1\n"
     example = trace(2, 1, 2, [(0xFF09, 9), (0x10, 0), (0x20, 0)])
-    longer = random_trace(dice, 10)
-    full = random_trace(dice, MOST_ORDERS)
+    longer = random_trace(generator, 10)
+    full = random_trace(generator, MOST_ORDERS)
     tester.test("empty input", [tester.agrees(b"", refused)])
     tester.test("every cut of the first 64 bytes",
                 (tester.agrees(data[:cut], refused) for data in (example, longer) for cut in range(64)))
@@ -139,7 +139,7 @@ def shapes(tester):
                  for shape in wrong for said in (1, 3, 2049)))
 
 
-def orders(tester, dice):
+def orders(tester, generator):
     """Orders that are refused, and the numbers of orders at their ends."""
     refused = [(word(5), 0), (word(6), 0), (word(7), 0), (word(READ, port=2), 0), (word(FLUSH, port=15), 0),
                (word(READ, line=2), 0), (word(DEVICE_READ, port=15, line=65535), 0), (word(SWAP, mask=0xFF), 0),
@@ -152,7 +152,7 @@ def orders(tester, dice):
     tester.test("orders refused 4, 5, 6 and 7", [tester.agrees(trace(2, 1, 2, refused), literal.encode())])
     tester.test("no orders", (tester.agrees(trace(*shape, []), b"ports %d sets %d lines %d orders 0\naudit 1\n" % shape)
                               for shape in ((1, 1, 1), (2, 1, 2), (8, 64, 4096))))
-    tester.test("2,048 orders", (tester.agrees(random_trace(dice, MOST_ORDERS)) for _ in range(6)))
+    tester.test("2,048 orders", (tester.agrees(random_trace(generator, MOST_ORDERS)) for _ in range(6)))
     largest = 2 ** 64 - 1
     tester.test("the largest numbers",
                 [tester.agrees(trace(1, 1, 1, [(word(WRITE, 1, mask=0xFF), largest), (0, 0)]),
@@ -173,17 +173,17 @@ def main():
     chosen = parser.parse_args()
     program = shlex.split(chosen.wrap) + [chosen.program]
     tester = Tester(chosen.name, program, [chosen.expected], chosen.timeout, chosen.first)
-    dice = random.Random(chosen.seed)
+    generator = random.Random(chosen.seed)
     example = trace(2, 1, 2, [(0xFF09, 9), (0x10, 0), (0x20, 0)])
     tester.test("document 01's example, byte for byte", [tester.agrees(example, EXAMPLE)])
     if not chosen.short:
-        lengths(tester, dice)
+        lengths(tester, generator)
         shapes(tester)
         tester.test("a trace that comes in pieces",
-                    (tester.in_pieces(data, size, 0.002) for data in (example, example[:40], random_trace(dice, 20))
+                    (tester.in_pieces(data, size, 0.002) for data in (example, example[:40], random_trace(generator, 20))
                      for size in (1, 7, 16)))
-    orders(tester, dice)
-    tester.test("random traces", (tester.agrees(random_trace(dice)) for _ in range(chosen.random)))
+    orders(tester, generator)
+    tester.test("random traces", (tester.agrees(random_trace(generator)) for _ in range(chosen.random)))
     print(f"  {tester.runs} traces, seed {chosen.seed}")
     sys.exit(tester.failed != 0)
 

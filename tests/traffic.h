@@ -3,10 +3,10 @@
 #ifndef TRAFFIC_H
 #define TRAFFIC_H
 
-#include "dice.h"
+#include "generator.h"
 #include "pair.h"
 
-/* The habits of one run, so that runs differ from each other in more than their numbers. */
+/* The choices of one run, so that runs differ from each other in more than their numbers. */
 struct traffic {
     struct second_shape shape;
     unsigned hot[8]; /* lines that many orders go to; most share an index */
@@ -19,31 +19,31 @@ struct traffic {
 };
 
 /* A shape of few entries, so that conflicts and evictions are frequent. */
-struct second_shape traffic_small_shape(struct dice *dice);
+struct second_shape traffic_small_shape(struct generator *generator);
 
 /* Any shape; the limits come often. */
-struct second_shape traffic_any_shape(struct dice *dice);
+struct second_shape traffic_any_shape(struct generator *generator);
 
-/* The habits of a run on a shape. */
-void traffic_begin(struct traffic *traffic, struct dice *dice, struct second_shape shape);
+/* The choices of a run on a shape. */
+void traffic_begin(struct traffic *traffic, struct generator *generator, struct second_shape shape);
 
 /* An order word from its fields. */
 uint64_t traffic_word(uint64_t kind, uint64_t mode, uint64_t port, uint64_t mask, uint64_t line, uint64_t compare);
 
 /* An order, seen the tables: so that swaps succeed often. */
-uint64_t traffic_order(const struct traffic *traffic, struct dice *dice, const struct second_model *model);
-uint64_t traffic_operand(const struct traffic *traffic, struct dice *dice);
+uint64_t traffic_order(const struct traffic *traffic, struct generator *generator, const struct second_model *model);
+uint64_t traffic_operand(const struct traffic *traffic, struct generator *generator);
 
 /* Random words in main memory, few values or all 64 bits. */
-void traffic_fill_memory(const struct traffic *traffic, struct dice *dice, struct second_model *model);
+void traffic_fill_memory(const struct traffic *traffic, struct generator *generator, struct second_model *model);
 
 /* Any bytes in the three tables: what fresh has to clear. */
-void traffic_fill_tables(struct dice *dice, struct second_model *model);
+void traffic_fill_tables(struct generator *generator, struct second_model *model);
 
 /* Spoils an entry or a word of memory, mostly where the orders go. */
-void traffic_damage(const struct traffic *traffic, struct dice *dice, struct second_model *model);
+void traffic_damage(const struct traffic *traffic, struct generator *generator, struct second_model *model);
 
 /* Tables of random entries: mostly states, mostly tags of lines below lines. */
-void traffic_noise(const struct traffic *traffic, struct dice *dice, struct second_model *model);
+void traffic_noise(const struct traffic *traffic, struct generator *generator, struct second_model *model);
 
 #endif

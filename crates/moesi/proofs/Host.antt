@@ -38,12 +38,12 @@ module _ {s : Shape} {b : Bytes} (f : Fitting s b) where
   -- The model that fitting bytes hold is accepted.
   pub lent : lentRefusal s (modelIn s b) ≡ 0
   unfolding modelIn
-  lent = facts-lent s (modelIn s b) (record { range = f .range; sizes = record { memory = length-numbers 8 (s .lines) (b .memory); tags = length-numbers 4 (entries s) (b .tags); states = f .states-fit; words = length-numbers 8 (entries s) (b .words) } })
+  lent = facts-lent s (modelIn s b) (record { range = f .range; sizes = record { memory = length-numbers 8 (s .lines) (b .memory); tags = length-numbers 4 (entries s) (b .tags); states = f .filled .states-fit; words = length-numbers 8 (entries s) (b .words) } })
 
   -- The tables of a line are packed in the bytes.
   pub packed : (a : ℕ) {l : Line} → l ≡ lineOf s a → Packed l (b .tags) (b .states) (b .words)
   unfolding lineOf
-  packed a e = rw e (record { tags-fit = f .tags-fit; states-fit = f .states-fit; words-fit = f .words-fit; index = mod-lt a (some-sets s (f .range)) })
+  packed a e = rw e (record { tags-fit = f .filled .tags-fit; states-fit = f .filled .states-fit; words-fit = f .filled .words-fit; index = mod-lt a (some-sets s (f .range)) })
 
   pub in-memory : {a : ℕ} → a < s .lines → 8 * a + 8 ≤ length (b .memory)
   in-memory h = omega (arith, f .memory-fits)
@@ -95,14 +95,16 @@ fitting s b out e =
     record {
       range = f .0;
       memory-fits = eqb-true _ _ (and-l m g (and-l (m && g) h (and-l (m && g && h) d z)));
-      tags-fit = eqb-true _ _ (and-r m g (and-l (m && g) h (and-l (m && g && h) d z)));
-      states-fit = eqb-true _ _ (and-r (m && g) h (and-l (m && g && h) d z));
-      words-fit = eqb-true _ _ (and-r (m && g && h) d z);
+      filled = record {
+        tags-fit = eqb-true _ _ (and-r m g (and-l (m && g) h (and-l (m && g && h) d z)));
+        states-fit = eqb-true _ _ (and-r (m && g) h (and-l (m && g && h) d z));
+        words-fit = eqb-true _ _ (and-r (m && g && h) d z);
+      };
     }
 
 refitted : {s : Shape} {b : Bytes} (b' : Bytes) → Fitting s b → length (b' .memory) ≡ length (b .memory) → length (b' .tags) ≡ length (b .tags) → length (b' .states) ≡ length (b .states)
     → length (b' .words) ≡ length (b .words) → Fitting s b'
-refitted b' f em eg eh ed = record { range = f .range; memory-fits = em ∙ f .memory-fits; tags-fit = eg ∙ f .tags-fit; states-fit = eh ∙ f .states-fit; words-fit = ed ∙ f .words-fit }
+refitted b' f em eg eh ed = record { range = f .range; memory-fits = em ∙ f .memory-fits; filled = record { tags-fit = eg ∙ f .filled .tags-fit; states-fit = eh ∙ f .filled .states-fit; words-fit = ed ∙ f .filled .words-fit } }
 
 -- Every byte of a slice is below 256.
 abbrev pub AreBytes : List ℕ → Type 0
@@ -112,7 +114,7 @@ AreBytes l = (k : ℕ) → getD l k 0 < 256
 same-lent : {s : Shape} {b : Bytes} → Fitting s b → AreBytes (b .memory) → AreBytes (b .tags) → AreBytes (b .words) → inBytes (modelIn s b) ≡ b
 unfolding inBytes modelIn
 same-lent {s} {b} f m g d =
-    rw (same-bytes 8 (s .lines) (b .memory) m (f .memory-fits), same-bytes 4 (entries s) (b .tags) g (f .tags-fit), same-bytes 8 (entries s) (b .words) d (f .words-fit))
+    rw (same-bytes 8 (s .lines) (b .memory) m (f .memory-fits), same-bytes 4 (entries s) (b .tags) g (f .filled .tags-fit), same-bytes 8 (entries s) (b .words) d (f .filled .words-fit))
 
 five-set : (x₀ x₁ x₂ x₃ x₄ : ℕ) (m : List ℕ) → set (set (set (set (set (numbers 8 5 m) 0 x₀) 1 x₁) 2 x₂) 3 x₃) 4 x₄ ≡ x₀ ∷ x₁ ∷ x₂ ∷ x₃ ∷ x₄ ∷ []
 unfolding numbers
@@ -175,7 +177,7 @@ module _ (s : Shape) (b : Bytes) {n : ℕ} (en : n ≡ hostRefusal s b true) whe
   unfolding hostFresh fresh zeroed modelIn inBytes
   fresh-accepted z m eg eh ed =
       let f = fitting s b true (sym en ∙ z) in
-      rw (← en, eq-eqb n 0 z, eq-eqb (lentRefusal s (modelIn s b)) 0 (lent f), eg, eh, ed, f .tags-fit, f .states-fit, f .words-fit, encoded-zeros 4 (entries s), encoded-zeros 8 (entries s), same-bytes 8 (s .lines) (b .memory) m (f .memory-fits))
+      rw (← en, eq-eqb n 0 z, eq-eqb (lentRefusal s (modelIn s b)) 0 (lent f), eg, eh, ed, f .filled .tags-fit, f .filled .states-fit, f .filled .words-fit, encoded-zeros 4 (entries s), encoded-zeros 8 (entries s), same-bytes 8 (s .lines) (b .memory) m (f .memory-fits))
 
   pub fresh-refused : n ≢ 0 → hosted n b [] ≡ hostFresh s b
   unfolding hostFresh
@@ -188,10 +190,8 @@ module _ (s : Shape) (b : Bytes) (out : List ℕ) {n : ℕ} (en : n ≡ hostRefu
   only (x ∷ []) v e = refl
   only (x ∷ y ∷ l) v e = absurd (omega arith)
 
-  pub audit-fits : n ≡ 0 → audited.Fitting s (b .memory) (b .tags) (b .states) (b .words)
-  audit-fits z =
-      let f = fitting s b (eqb (length out) 1) (sym en ∙ z) in
-      record { range = f .range; memory-fits = f .memory-fits; filled = record { tags-fit = f .tags-fit; states-fit = f .states-fit; words-fit = f .words-fit } }
+  pub audit-fits : n ≡ 0 → Fitting s b
+  audit-fits z = fitting s b (eqb (length out) 1) (sym en ∙ z)
 
   pub audit-accepted : n ≡ 0 → {p : Bool} {v : ℕ} → p ≡ tablesPass s (audited.modelIn s (b .memory) (b .tags) (b .states) (b .words)) → v ≡ bit p → hosted 0 b (set out 0 v) ≡ hostAudit s b out
   unfolding hostAudit audit modelIn

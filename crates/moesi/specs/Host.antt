@@ -24,7 +24,7 @@ pub record Bytes : Type 0 where
   pub words : List ℕ
 
 abbrev pub bytes : List ℕ → List ℕ → List ℕ → List ℕ → Bytes
-bytes m g h d = record { memory = m; tags = g; states = h; words = d }
+bytes memory tags states words = record { memory = memory; tags = tags; states = states; words = words }
 
 -- The model that the bytes hold: eight bytes for a word of memory or of the data table, four for a tag, one for a state.
 unfoldable pub modelIn : Shape → Bytes → Model
@@ -39,15 +39,11 @@ unfoldable pub bytesFit : Shape → ℕ → ℕ → ℕ → ℕ → Bool
 bytesFit s memory tags states words = eqb memory (8 * s .lines) && eqb tags (4 * entries s) && eqb states (entries s) && eqb words (8 * entries s)
 
 -- The shape is in its range, and the slices have its bytes.
-pub record Fitting (s : Shape) (b : Bytes) : Type 0 where
-  pub range : inRange s ≡ true
-  pub memory-fits : length (b .memory) ≡ 8 * s .lines
-  pub tags-fit : length (b .tags) ≡ 4 * entries s
-  pub states-fit : length (b .states) ≡ entries s
-  pub words-fit : length (b .words) ≡ 8 * entries s
+abbrev pub Fitting : Shape → Bytes → Type 0
+Fitting s b = held.Fitting s (b .memory) (b .tags) (b .states) (b .words)
 
--- Refusal 2, a number of the shape outside its range; refusal 3, another length of a slice, the one that is written to (out) among them;
--- else 0.
+-- Refusal 2, a number of the shape outside its range; refusal 3, another length of a slice; else 0. `out` says that the slice written to
+-- has its length.
 unfoldable pub refusalBy : Shape → ℕ → ℕ → ℕ → ℕ → Bool → ℕ
 refusalBy s memory tags states words out = cond (inRange s) (cond (bytesFit s memory tags states words && out) 0 3) 2
 

@@ -1,5 +1,5 @@
-// The way in from C: step, fresh and audit on numbers and byte slices, as include/moesi.h declares them. Each returns its refusal, 0 if
-// none. Nothing is asked of the caller but that the slices share no byte with one another.
+// The C interface: step, fresh and audit on numbers and byte slices, as include/moesi.h declares them. Each returns its refusal, 0 if none.
+// All that is asked of the caller is that the slices have the lengths that it says and share no byte with one another.
 use model::shape::Shape;
 ghost use mathlib.Core.Path.{_≡_};
 ghost use mathlib.Core.Bool.{true};
@@ -53,7 +53,7 @@ fn put_answer(out: &mut [u8], refusal: u64, value: u64, swapped: u64, reads: u64
     endian::write_eight(out, 32, writes);
 }
 
-// One order: its five numbers go to answer, those of a refused order too.
+// One order: its five numbers go to answer, those of a refused order too. An answer of another length than 40 bytes is left alone.
 #[no_mangle]
 pub extern "C" fn moesi_step(
     ports: usize,
@@ -150,12 +150,12 @@ pub extern "C" fn moesi_audit(
         data.len(),
         out,
     );
-    if n == 0 {
-        verdict[0] = yes_or_no(packed_audit::tables_pass(shape, memory, tags, states, data));
-        return 0;
+    if n != 0 {
+        if out {
+            verdict[0] = 0;
+        }
+        return n;
     }
-    if out {
-        verdict[0] = 0;
-    }
-    n
+    verdict[0] = yes_or_no(packed_audit::tables_pass(shape, memory, tags, states, data));
+    0
 }

@@ -16,7 +16,8 @@ use Rattle.model.proofs.Bounds.{bounded}
 use Rattle.audit.specs.declared.Verdict.{Verdict}
 use Rattle.audit.specs.Verdict.{verdictOf}
 use Rattle.replay.specs.declared.Played.{Played}
-use Rattle.replay.specs.Trace.{shapeIn, ordersIn, traceRefusal, ordersOf, traceOrders, afterAll, answersTo, placed, start, refused, played, answersOf}
+use Rattle.model.specs.Marks.{modelRun}
+use Rattle.replay.specs.Trace.{shapeIn, ordersIn, traceRefusal, ordersOf, traceOrders, answersTo, placed, start, refused, played, answersOf}
 use Rattle.replay.proofs.Refusing.{whole}
 
 pub audit-passes : (s : Shape) {t u : Model} {v : Verdict} → v ≡ verdictOf s t → t ≡ u → v .passes ≡ audit s u
@@ -43,8 +44,8 @@ module _ (s : Shape) (h : inRange s ≡ true) where
 
 -- The parts that are lent are those of the trace.
 pub parts-played : (s : Shape) (n : ℕ) (a₀ : List ℕ) {us vs ws xs : List ℕ} → us ≡ ws → vs ≡ xs → {t u : Model} → t ≡ u
-    → {b : Bool} {a : List ℕ} → (b ≡ audit s (afterAll s (ordersOf us vs 0 n) t)) × (a ≡ placed (answersTo s (ordersOf us vs 0 n) t) a₀)
-    → (b ≡ audit s (afterAll s (ordersOf ws xs 0 n) u)) × (a ≡ placed (answersTo s (ordersOf ws xs 0 n) u) a₀)
+    → {b : Bool} {a : List ℕ} → (b ≡ audit s (modelRun s (ordersOf us vs 0 n) t)) × (a ≡ placed (answersTo s (ordersOf us vs 0 n) t) a₀)
+    → (b ≡ audit s (modelRun s (ordersOf ws xs 0 n) u)) × (a ≡ placed (answersTo s (ordersOf ws xs 0 n) u) a₀)
 parts-played s n a₀ ew ex et h = rw (ew, ex, et) at h
 
 -- What `play_trace` promises of its result, and of the answers before and after.
@@ -57,7 +58,7 @@ module _ (bs a₀ : List ℕ) {n : ℕ} (e : n ≡ traceRefusal bs) where
   trace-refused d f = (f ∙ rw (← e, ne-eqb n 0 d), (rw f (omega arith), rw (← e, ne-eqb n 0 d)))
 
   pub trace-played : n ≡ 0 → {s : Shape} → s ≡ shapeIn bs → {k : ℕ} → k ≡ ordersIn bs → {b : Bool} {a : List ℕ}
-      → (b ≡ audit s (afterAll s (traceOrders k bs) (start s))) × (a ≡ placed (answersTo s (traceOrders k bs) (start s)) a₀)
+      → (b ≡ audit s (modelRun s (traceOrders k bs) (start s))) × (a ≡ placed (answersTo s (traceOrders k bs) (start s)) a₀)
       → Yields bs (record { refusal = 0; shape = s; orders = k; passes = b }) a₀ a
   unfolding played answersOf
   trace-played z es ek h = (rw (← e, eq-eqb n 0 z, h .0, es, ek), (rw ek (whole bs e z .few), rw (← e, eq-eqb n 0 z) (rw (es, ek) at (h .1))))

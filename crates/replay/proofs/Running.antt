@@ -13,7 +13,8 @@ use Rattle.model.specs.Order.{Order}
 use Rattle.model.specs.Tables.{Model}
 use Rattle.model.specs.Step.{Result, result, step}
 use Rattle.decode.specs.Order.{order}
-use Rattle.replay.specs.Trace.{orderAt, ordersOf, afterAll, five, answersTo, placed}
+use Rattle.model.specs.Marks.{modelRun}
+use Rattle.replay.specs.Trace.{orderAt, ordersOf, five, answersTo, placed}
 
 -- Five numbers to an order.
 orders-length : (ws xs : List ℕ) (k n : ℕ) → length (ordersOf ws xs k n) ≡ n
@@ -38,7 +39,7 @@ pub record Running (s : Shape) (ws xs : List ℕ) (n : ℕ) (t₀ : Model) (a₀
   pub below : k ≤ n
   pub lengths : SameLengths t₀ t
   pub same : length a ≡ length a₀
-  pub after : afterAll s (ordersOf ws xs k (n - k)) t ≡ afterAll s (ordersOf ws xs 0 n) t₀
+  pub after : modelRun s (ordersOf ws xs k (n - k)) t ≡ modelRun s (ordersOf ws xs 0 n) t₀
   pub answers : sets a (5 * k) (answersTo s (ordersOf ws xs k (n - k)) t) ≡ sets a₀ 0 (answersTo s (ordersOf ws xs 0 n) t₀)
 
 module _ (s : Shape) (ws xs : List ℕ) (n : ℕ) where
@@ -51,7 +52,7 @@ module _ (s : Shape) (ws xs : List ℕ) (n : ℕ) where
     pub running-more : k < n → {w x : ℕ} → w ≡ number 8 (drop (8 * k) ws) → x ≡ number 8 (drop (8 * k) xs)
         → {r : Answer} {u : Model} → result r u ≡ step s (order w x) t → SameLengths t u → {b : List ℕ} → b ≡ sets a (5 * k) (five r)
         → Running s ws xs n t₀ a₀ u b (k + 1)
-    unfolding ordersOf orderAt afterAll answersTo
+    unfolding ordersOf orderAt modelRun answersTo
     running-more h ew ex {r} {u} er l eb =
         let e : n - k ≡ suc (n - (k + 1)) = omega arith in
         let f : 5 * (k + 1) ≡ suc (suc (suc (suc (suc (5 * k))))) = omega arith in
@@ -62,13 +63,13 @@ module _ (s : Shape) (ws xs : List ℕ) (n : ℕ) where
           below = omega arith;
           lengths = record { memory = l .memory ∙ i .memory; tags = l .tags ∙ i .tags; states = l .states ∙ i .states; words = l .words ∙ i .words };
           same = ap length eb ∙ length-sets a (5 * k) (five r) ∙ v .same;
-          after = ap (λ (z : Result). afterAll s left (z .after)) y ∙ (rw e at (v .after));
+          after = ap (λ (z : Result). modelRun s left (z .after)) y ∙ (rw e at (v .after));
           answers = rw (eb, f) (ap (λ (z : Result). sets a (5 * k) (five (z .answer) ++ answersTo s left (z .after))) y ∙ (rw e at (v .answers)));
         }
 
     pub running-done : n ≤ k → 5 * n ≤ length a₀
-        → (t ≡ afterAll s (ordersOf ws xs 0 n) t₀) × (a ≡ placed (answersTo s (ordersOf ws xs 0 n) t₀) a₀)
-    unfolding ordersOf afterAll answersTo
+        → (t ≡ modelRun s (ordersOf ws xs 0 n) t₀) × (a ≡ placed (answersTo s (ordersOf ws xs 0 n) t₀) a₀)
+    unfolding ordersOf modelRun answersTo
     running-done h l =
         let e : n - k ≡ 0 = omega arith in
         let os = ordersOf ws xs 0 n in

@@ -13,6 +13,7 @@ use Rattle.model.specs.Tables.{Model, model}
 use Rattle.model.specs.Step.{step}
 use Rattle.model.specs.Fresh.{zeroed}
 use Rattle.model.specs.Audit.{audit}
+use Rattle.model.specs.Marks.{modelRun}
 use Rattle.replay.specs.declared.Played.{Played}
 
 -- A trace starts with four 32-bit sizes: ports, sets, lines, orders.
@@ -50,16 +51,12 @@ ordersOf words operands k (suc n) = orderAt words operands k ∷ ordersOf words 
 abbrev pub traceOrders : ℕ → List ℕ → List Order
 traceOrders n bs = ordersOf (wordsPart bs) (operandsPart n bs) 0 n
 
--- What a list of orders leaves. Each step gets what the step before left, also after a refusal.
-unfoldable pub afterAll : Shape → List Order → Model → Model
-afterAll s [] t = t
-afterAll s (o ∷ os) t = afterAll s os (step s o t .after)
-
 -- The five numbers of an answer.
 abbrev pub five : Answer → List ℕ
 five x = x .refusal ∷ x .value ∷ x .swapped ∷ x .reads ∷ x .writes ∷ []
 
--- What a list of orders answers: five numbers to an order, one behind the other.
+-- What a list of orders answers: five numbers to an order, one behind the other. Each step gets what the step before left, also after a
+-- refusal. (What the list leaves is `modelRun`.)
 unfoldable pub answersTo : Shape → List Order → Model → List ℕ
 answersTo s [] t = []
 answersTo s (o ∷ os) t = five (step s o t .answer) ++ answersTo s os (step s o t .after)
@@ -82,7 +79,7 @@ played bs =
     let s = shapeIn bs in
     let n = ordersIn bs in
     cond (eqb (traceRefusal bs) 0)
-    (record { refusal = 0; shape = s; orders = n; passes = audit s (afterAll s (traceOrders n bs) (start s)) })
+    (record { refusal = 0; shape = s; orders = n; passes = audit s (modelRun s (traceOrders n bs) (start s)) })
     (refused (traceRefusal bs))
 
 -- And its answers: none on a refusal.

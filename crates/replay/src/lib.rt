@@ -9,7 +9,8 @@ ghost use lib.Seq.{sets};
 ghost use Rattle.model.specs.Shape.{inRange};
 ghost use Rattle.model.specs.Tables.{model};
 ghost use Rattle.model.specs.Audit.{audit};
-ghost use Rattle.replay.specs.Trace.{shapeIn, ordersIn, traceRefusal, ordersOf, traceOrders, afterAll, five, answersTo, placed, start, refused, played, answersOf};
+ghost use Rattle.model.specs.Marks.{modelRun};
+ghost use Rattle.replay.specs.Trace.{shapeIn, ordersIn, traceRefusal, ordersOf, traceOrders, five, answersTo, placed, start, refused, played, answersOf};
 
 // The most orders that a trace may say, and the numbers of their answers, five to an order.
 pub const MAX_ORDERS: usize = 2048;
@@ -90,7 +91,7 @@ fn run_orders(
 )
     requires { ⌜ (8 * n ≤ length (now words)) × (8 * n ≤ length (now operands)) ⌝ }
     requires { ⌜ 5 * n ≤ length (now answers) ⌝ }
-    ensures { λ r. ⌜ model (now (memory .exit)) (now (tags .exit)) (now (states .exit)) (now («data» .exit)) ≡ afterAll shape (ordersOf (now (words .entry)) (now (operands .entry)) 0 n) (model (now (memory .entry)) (now (tags .entry)) (now (states .entry)) (now («data» .entry))) ⌝ }
+    ensures { λ r. ⌜ model (now (memory .exit)) (now (tags .exit)) (now (states .exit)) (now («data» .exit)) ≡ modelRun shape (ordersOf (now (words .entry)) (now (operands .entry)) 0 n) (model (now (memory .entry)) (now (tags .entry)) (now (states .entry)) (now («data» .entry))) ⌝ }
     ensures { λ r. ⌜ now (answers .exit) ≡ placed (answersTo shape (ordersOf (now (words .entry)) (now (operands .entry)) 0 n) (model (now (memory .entry)) (now (tags .entry)) (now (states .entry)) (now («data» .entry)))) (now (answers .entry)) ⌝ }
 {
     let mut k = 0;
@@ -117,7 +118,7 @@ fn run_and_audit(
 ) -> bool
     requires { ⌜ (8 * n ≤ length (now words)) × (8 * n ≤ length (now operands)) ⌝ }
     requires { ⌜ 5 * n ≤ length (now answers) ⌝ }
-    ensures { λ r. ⌜ r ≡ audit shape (afterAll shape (ordersOf (now (words .entry)) (now (operands .entry)) 0 n) (model (now (memory .entry)) (now (tags .entry)) (now (states .entry)) (now («data» .entry)))) ⌝ }
+    ensures { λ r. ⌜ r ≡ audit shape (modelRun shape (ordersOf (now (words .entry)) (now (operands .entry)) 0 n) (model (now (memory .entry)) (now (tags .entry)) (now (states .entry)) (now («data» .entry)))) ⌝ }
     ensures { λ r. ⌜ now (answers .exit) ≡ placed (answersTo shape (ordersOf (now (words .entry)) (now (operands .entry)) 0 n) (model (now (memory .entry)) (now (tags .entry)) (now (states .entry)) (now («data» .entry)))) (now (answers .entry)) ⌝ }
 {
     run_orders(
@@ -139,7 +140,7 @@ fn run_and_audit(
 fn play_orders(shape: Shape, orders: usize, trace: &[u8], answers: &mut [u64; MAX_NUMBERS]) -> bool
     requires { ⌜ inRange shape ≡ true ⌝ }
     requires { ⌜ (orders ≤ 2048) × (length (now trace) ≡ 16 + 16 * orders) ⌝ }
-    ensures { λ r. ⌜ r ≡ audit shape (afterAll shape (traceOrders orders (now (trace .entry))) (start shape)) ⌝ }
+    ensures { λ r. ⌜ r ≡ audit shape (modelRun shape (traceOrders orders (now (trace .entry))) (start shape)) ⌝ }
     ensures { λ r. ⌜ now (answers .exit) ≡ placed (answersTo shape (traceOrders orders (now (trace .entry))) (start shape)) (now (answers .entry)) ⌝ }
 {
     let lines = shape.lines;

@@ -7,35 +7,35 @@ use Rattle.moesi.proofs.Host.{out-fits, audit-fits, audit-accepted, aud
 use Rattle.moesi.proofs.moesi_audit.Statement.{statement}
 use Rattle.moesi.proofs.moesi_audit.Tie as tie
 
-tables-pass-requires : tie.Need-tables-pass-requires
-tables-pass-requires c κs = audit-fits _ _ (c .before .before .before .before .before .before .before .args .verdict .now) (c .before .refusal-by .ensures) (c .if1 .taken)
-
 slice-write-verdict : tie.Need-slice-write-verdict
-slice-write-verdict c = let e = eqb-true (length (c .before .before .before .before .before .before .before .before .before .args .verdict .now)) 1 (out-fits _ _ _ _ _ _ (c .before .before .before .refusal-by .ensures) (c .before .before .if1 .taken)) in omega (arith, e)
+slice-write-verdict c = let e = eqb-true (length (c .before .before .before .before .before .before .before .before .args .verdict .now)) 1 (c .if2 .taken) in omega (arith, e)
 
 returns : tie.Need-returns
-returns c = audit-accepted _ _ _ (c .before .before .before .refusal-by .ensures) (c .before .before .if1 .taken) (c .before .tables-pass .ensures) (c .yes-or-no .ensures)
-
-slice-write-verdict-2 : tie.Need-slice-write-verdict-2
-slice-write-verdict-2 c = let e = eqb-true (length (c .before .before .before .before .before .before .before .before .args .verdict .now)) 1 (c .if2 .taken) in omega (arith, e)
+returns c = audit-refused _ _ _ (c .before .before .refusal-by .ensures) (c .before .if1 .taken) (c .if2 .taken)
 
 returns-2 : tie.Need-returns-2
-returns-2 c = audit-refused _ _ _ (c .before .before .refusal-by .ensures) (c .before .if1 .left) (c .if2 .taken)
+returns-2 c = audit-left _ _ _ (c .before .before .refusal-by .ensures) (c .before .if1 .taken) (c .if2 .left)
+
+tables-pass-requires : tie.Need-tables-pass-requires
+tables-pass-requires c κs = audit-fits _ _ (c .before .before .before .before .before .before .before .args .verdict .now) (c .before .refusal-by .ensures) (c .if1 .left)
+
+slice-write-verdict-2 : tie.Need-slice-write-verdict-2
+slice-write-verdict-2 c = let e = eqb-true (length (c .before .before .before .before .before .before .before .before .before .args .verdict .now)) 1 (out-fits _ _ _ _ _ _ (c .before .before .before .refusal-by .ensures) (c .before .before .if1 .left)) in omega (arith, e)
 
 returns-3 : tie.Need-returns-3
-returns-3 c = audit-left _ _ _ (c .before .before .refusal-by .ensures) (c .before .if1 .left) (c .if2 .left)
+returns-3 c = audit-accepted _ _ _ (c .before .before .before .refusal-by .ensures) (c .before .before .if1 .left) (c .before .tables-pass .ensures) (c .yes-or-no .ensures)
 
 pub moesi-audit-spec : {M : Type 1} → statement M
 moesi-audit-spec =
     tie.close
     (tie.spec
     (λ c κs. search needs)
-    tables-pass-requires
-    (λ c κs. search needs)
     slice-write-verdict
     (λ c. search needs)
     returns
+    returns-2
+    tables-pass-requires
+    (λ c κs. search needs)
     slice-write-verdict-2
     (λ c. search needs)
-    returns-2
     returns-3)
