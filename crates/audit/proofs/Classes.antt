@@ -8,7 +8,7 @@ use Rattle.protocol.specs.declared.state.State.{State}
 use Rattle.protocol.specs.declared.state.Byte.{Byte}
 use Rattle.protocol.specs.State.{stateOf, isState, orInvalid, valid, owner, exclusive, modeOf}
 use Rattle.protocol.specs.Coded.{modeNumber}
-use Rattle.protocol.proofs.Bools.{Is}
+use Rattle.words.proofs.Bools.{Is}
 use Rattle.protocol.proofs.Finite.{forStates, at-state}
 use Rattle.audit.specs.declared.Look.{Look}
 use Rattle.audit.specs.Entries.{classNumber, lookOf}

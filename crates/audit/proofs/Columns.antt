@@ -12,9 +12,9 @@ use borrow.Author.Tests.{lt-ltb, ltb-true, not-true}
 use Rattle.protocol.specs.declared.state.State.{State}
 use Rattle.protocol.specs.declared.state.Byte.{Byte}
 use Rattle.protocol.specs.declared.state.Byte.the-variants.{Of, No}
-use Rattle.protocol.specs.Bools.{implies}
+use Rattle.words.specs.Bools.{implies}
 use Rattle.protocol.specs.State.{isState, orInvalid, valid, owner, exclusive, isO, modeOf, sameMode}
-use Rattle.protocol.proofs.Bools.{Is, and-l, and-r, both, mp, not-both, not-is, by-bool}
+use Rattle.words.proofs.Bools.{Is, and-l, and-r, both, mp, not-both, not-is, by-bool}
 use Rattle.protocol.proofs.Finite.{at-state}
 use Rattle.protocol.proofs.States.{owner-valid, exclusive-valid, O-valid, same-mode, mode-itself}
 use Rattle.model.specs.declared.shape.Shape.{Shape}

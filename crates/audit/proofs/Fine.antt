@@ -13,7 +13,7 @@ use Rattle.protocol.specs.declared.state.State.{State}
 use Rattle.protocol.specs.declared.state.Byte.{Byte}
 use Rattle.protocol.specs.State.{stateOf, isState, valid, owner, exclusive, modeOf, sameMode}
 use Rattle.protocol.specs.Coded.{modeNumber}
-use Rattle.protocol.proofs.Bools.{Is, and-l, and-r, both, not-both, not-is}
+use Rattle.words.proofs.Bools.{Is, and-l, and-r, both, not-both, not-is}
 use Rattle.protocol.proofs.States.{owner-valid}
 use Rattle.model.specs.declared.shape.Shape.{Shape}
 use Rattle.model.specs.Below.{allBelow, anyBelow}

@@ -5,7 +5,7 @@ use mathlib.Core.Bool.{Bool, true, false, not}
 use native.Mathlib.Omega.{arith}
 use native.Mathlib.Numerals.{add-one}
 use borrow.Author.Tests.{not-true, not-false}
-use Rattle.protocol.proofs.Bools.{Is, both, contra}
+use Rattle.words.proofs.Bools.{Is, both, contra}
 use Rattle.model.specs.Below.{allBelow}
 use Rattle.model.proofs.Below.{below-all}
 

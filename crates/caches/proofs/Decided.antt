@@ -14,16 +14,16 @@ use Rattle.protocol.specs.declared.state.Mode.{Mode}
 use Rattle.protocol.specs.declared.state.State.{State}
 use Rattle.protocol.specs.declared.state.State.the-variants.{I}
 use Rattle.protocol.specs.declared.state.Byte.{Byte}
-use Rattle.protocol.specs.declared.access.Access.{Access}
-use Rattle.protocol.specs.declared.access.Effect.{Effect}
+use Rattle.words.specs.declared.access.Access.{Access}
+use Rattle.words.specs.declared.access.Effect.{Effect}
 use Rattle.protocol.specs.declared.rules.Bus.the-variants.{Quiet}
 use Rattle.protocol.specs.declared.rules.Rule.{Rule}
 use Rattle.protocol.specs.declared.rules.Coded.{Coded}
 use Rattle.protocol.specs.State.{code, stateOf, orInvalid, isState, valid, owner}
-use Rattle.protocol.specs.Access.{effectAt}
+use Rattle.words.specs.Access.{effectAt}
 use Rattle.protocol.specs.Rules.{rule, flushRule, snooped, updates}
 use Rattle.protocol.specs.Coded.{busNumber, busAt, coded}
-use Rattle.protocol.proofs.Bools.{Is, and-l, by-bool, by-cond}
+use Rattle.words.proofs.Bools.{Is, and-l, by-bool, by-cond}
 use Rattle.protocol.proofs.States.{not-valid, code-stateOf}
 use Rattle.protocol.proofs.Rows.{bus-below, bus-at, snooped-is}
 use Rattle.protocol.proofs.Kept.{snooped-I, quiet-same, quiet-keeps, flush-own, flush-bus, flush-stores}

@@ -6,13 +6,13 @@ use native.Mathlib.Nat.{mod-lt}
 use lib.ListN.{getD}
 use borrow.Author.Tests.{ltb-true, not-true}
 use Rattle.protocol.specs.declared.state.Mode.{Mode}
-use Rattle.protocol.specs.declared.access.Access.{Access}
-use Rattle.protocol.specs.Bools.{bit}
+use Rattle.words.specs.declared.access.Access.{Access}
+use Rattle.words.specs.Bools.{bit}
 use Rattle.protocol.specs.State.{stateOf, isState, valid, owner}
-use Rattle.protocol.specs.Access.{effectAt}
+use Rattle.words.specs.Access.{effectAt}
 use Rattle.protocol.specs.Rules.{flushRule}
 use Rattle.protocol.specs.Coded.{coded}
-use Rattle.protocol.proofs.Bools.{Is, and-r, by-bool}
+use Rattle.words.proofs.Bools.{Is, and-r, by-bool}
 use Rattle.protocol.proofs.States.{owner-valid}
 use Rattle.model.specs.declared.shape.Shape.{Shape}
 use Rattle.model.specs.Shape.{indexOf, entryOf}

@@ -5,12 +5,12 @@ use lib.ListN.{getD, set}
 use lib.Dec.{eqb}
 use Rattle.protocol.specs.declared.state.Mode.{Mode}
 use Rattle.protocol.specs.declared.state.State.{State}
-use Rattle.protocol.specs.declared.access.Access.{Access}
-use Rattle.protocol.specs.declared.access.Effect.{Effect}
+use Rattle.words.specs.declared.access.Access.{Access}
+use Rattle.words.specs.declared.access.Effect.{Effect}
 use Rattle.protocol.specs.declared.rules.Rule.{Rule}
 use Rattle.protocol.specs.declared.rules.Coded.{Coded}
 use Rattle.protocol.specs.State.{code, stateOf, orInvalid, valid, owner}
-use Rattle.protocol.specs.Access.{effectAt}
+use Rattle.words.specs.Access.{effectAt}
 use Rattle.protocol.specs.Rules.{rule, flushRule, snooped, updates}
 use Rattle.protocol.specs.Coded.{coded}
 use Rattle.model.specs.Below.{allBelow, anyBelow, lowest, atOr}

@@ -2,8 +2,8 @@
 use model::order::Call;
 use model::order::Decoded;
 use model::shape::Shape;
-use protocol::access::Access;
 use protocol::state::Mode;
+use words::access::Access;
 ghost use mathlib.Core.Path.{_≡_};
 ghost use Rattle.model.specs.Order.{modeIn, checked, callOf, decode};
 ghost use Rattle.decode.specs.Order.{order, refusalIn};

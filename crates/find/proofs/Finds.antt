@@ -9,7 +9,7 @@ use lib.Seq.{drop-cons}
 use lib.Dec.{eqb, leb}
 use native.Mathlib.Omega.{arith}
 use borrow.Author.Tests.{eq-eqb, ne-eqb, le-leb, lt-leb, eqb-true, leb-false, not-true}
-use Rattle.protocol.proofs.Bools.{by-cond}
+use Rattle.words.proofs.Bools.{by-cond}
 use Rattle.model.specs.declared.shape.Shape.{Shape}
 use Rattle.model.specs.declared.found.Found.{Found}
 use Rattle.model.specs.declared.found.Found.the-variants.{Refused, Holder, Memory}

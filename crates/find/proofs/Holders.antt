@@ -10,7 +10,7 @@ use native.Mathlib.Decide.{ℕ-discrete}
 use native.Mathlib.Numerals.{add-one}
 use Rattle.protocol.specs.declared.state.Byte.{Byte}
 use Rattle.protocol.specs.State.{stateOf, orInvalid, valid}
-use Rattle.protocol.proofs.Bools.{Is}
+use Rattle.words.proofs.Bools.{Is}
 use Rattle.model.specs.declared.found.Found.the-variants.{Holder, Memory}
 use Rattle.model.specs.Below.{none, number, orElse, lowest}
 use Rattle.model.specs.Find.{holderOr}

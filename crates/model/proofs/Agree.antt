@@ -8,13 +8,13 @@ use native.Mathlib.Decide.{ℕ-discrete}
 use lib.ListN.{length}
 use borrow.Author.Tests.{not-true}
 use Rattle.protocol.specs.declared.state.Mode.{Mode}
-use Rattle.protocol.specs.declared.access.Access.{Access}
-use Rattle.protocol.specs.declared.access.Effect.{Effect}
+use Rattle.words.specs.declared.access.Access.{Access}
+use Rattle.words.specs.declared.access.Effect.{Effect}
 use Rattle.protocol.specs.declared.rules.Rule.{Rule}
-use Rattle.protocol.specs.Access.{effectAt}
+use Rattle.words.specs.Access.{effectAt}
 use Rattle.protocol.specs.Rules.{flushRule}
-use Rattle.protocol.proofs.Bools.{Is, by-bool}
-use Rattle.protocol.proofs.Effects.{unwritten}
+use Rattle.words.proofs.Bools.{Is, by-bool}
+use Rattle.words.proofs.Effects.{unwritten}
 use Rattle.protocol.proofs.Kept.{flush-own, flush-bus, flush-stores, quiet-same, quiet-keeps}
 use Rattle.model.specs.declared.shape.Shape.{Shape}
 use Rattle.model.specs.declared.order.Call.the-variants.{ByPort, Flush, DeviceRead}

@@ -10,7 +10,7 @@ use borrow.Author.Tests.{eq-eqb, ne-eqb}
 use Rattle.protocol.specs.declared.rules.Rule.{Rule}
 use Rattle.protocol.specs.State.{valid, owner}
 use Rattle.protocol.specs.Rules.{snooped, updates}
-use Rattle.protocol.proofs.Bools.{Is, and-l, and-r, both, mp, not-both}
+use Rattle.words.proofs.Bools.{Is, and-l, and-r, both, mp, not-both}
 use Rattle.protocol.proofs.States.{owner-valid, not-valid}
 use Rattle.model.specs.declared.shape.Shape.{Shape}
 use Rattle.model.specs.Shape.{indexOf, tagOf, entryOf}

@@ -9,7 +9,7 @@ use lib.Dec.{eqb}
 use borrow.Author.Tests.{eq-eqb, eqb-true, not-true}
 use Rattle.protocol.specs.declared.state.State.{State}
 use Rattle.protocol.specs.State.{valid, exclusive, isO, modeOf, sameMode}
-use Rattle.protocol.proofs.Bools.{Is, and-l, and-r, both, mp, imp, not-both, not-is, by-cond}
+use Rattle.words.proofs.Bools.{Is, and-l, and-r, both, mp, imp, not-both, not-is, by-cond}
 use Rattle.protocol.proofs.States.{exclusive-valid, O-valid, same-mode, mode-itself}
 use Rattle.model.specs.declared.shape.Shape.{Shape}
 use Rattle.model.specs.Shape.{entries}

@@ -4,7 +4,7 @@ use mathlib.Core.Path.{_≡_, refl}
 use mathlib.Core.Bool.{Bool, true, false, cond, _||_, not}
 use native.Mathlib.Omega.{arith}
 use native.Mathlib.Decide.{ℕ-discrete}
-use Rattle.protocol.proofs.Bools.{Is, and-l, and-r, both, or-l, or-r, contra, by-cond}
+use Rattle.words.proofs.Bools.{Is, and-l, and-r, both, or-l, or-r, contra, by-cond}
 use Rattle.model.specs.Below.{allBelow, anyBelow, Lowest, none, number, orElse, lowest, atOr}
 
 -- Below n + 1 is below n, or n itself.

@@ -8,7 +8,7 @@ use native.Mathlib.Nat.{mul-le-mul, div-le-self, div-lt-iff-lt-mul, div-add-mod'
 use native.Mathlib.Decide.{decLt}
 use lib.Dec.{eqb, leb, ltb}
 use borrow.Author.Tests.{ne-eqb, eqb-true, leb-true, lt-ltb, le-ltb}
-use Rattle.protocol.proofs.Bools.{Is, and-l, and-r}
+use Rattle.words.proofs.Bools.{Is, and-l, and-r}
 use Rattle.model.specs.declared.shape.Shape.{Shape}
 use Rattle.model.specs.Shape.{within, isSets, inRange, entries}
 

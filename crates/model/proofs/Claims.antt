@@ -6,12 +6,12 @@ use mathlib.Core.Logic.{_≢_}
 use mathlib.Core.Bool.{Bool, true, false, cond}
 use native.Mathlib.Omega.{arith}
 use lib.Dec.{eqb, leb}
-use Rattle.protocol.specs.Bools.{bit}
+use Rattle.words.specs.Bools.{bit}
 use Rattle.protocol.specs.declared.state.Mode.{Mode}
-use Rattle.protocol.specs.declared.access.Access.{Access}
-use Rattle.protocol.specs.Access.{effectAt}
+use Rattle.words.specs.declared.access.Access.{Access}
+use Rattle.words.specs.Access.{effectAt}
 use Rattle.protocol.specs.Rules.{flushRule}
-use Rattle.protocol.proofs.Bools.{by-cond}
+use Rattle.words.proofs.Bools.{by-cond}
 use Rattle.model.specs.declared.shape.Shape.{Shape}
 use Rattle.model.specs.declared.order.Call.the-variants.{ByPort, Flush, DeviceRead}
 use Rattle.model.specs.declared.order.Decoded.{Decoded}

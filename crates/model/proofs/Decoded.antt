@@ -5,7 +5,7 @@ use native.Mathlib.Omega.{arith}
 use lib.Dec.{eqb, leb}
 use borrow.Author.Tests.{eqb-true, lt-ltb, leb-false, not-true}
 use Rattle.protocol.specs.declared.state.Mode.{Mode}
-use Rattle.protocol.proofs.Bools.{Is, by-cond}
+use Rattle.words.proofs.Bools.{Is, by-cond}
 use Rattle.model.specs.declared.shape.Shape.{Shape}
 use Rattle.model.specs.declared.order.Call.{Call}
 use Rattle.model.specs.declared.order.Call.the-variants.{ByPort, Flush, DeviceRead}

@@ -15,7 +15,7 @@ use borrow.Author.Tests.{eq-eqb, ne-eqb, eqb-true}
 use Rattle.protocol.specs.declared.state.State.{State}
 use Rattle.protocol.specs.declared.state.State.the-variants.{I}
 use Rattle.protocol.specs.State.{valid}
-use Rattle.protocol.proofs.Bools.{Is}
+use Rattle.words.proofs.Bools.{Is}
 use Rattle.model.specs.declared.shape.Shape.{Shape}
 use Rattle.model.specs.Shape.{entries, indexOf, tagOf, entryOf}
 use Rattle.model.specs.Tables.{Model, stateAt, homeAt, seen, holds}

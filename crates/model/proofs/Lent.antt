@@ -6,7 +6,7 @@ use native.Mathlib.Omega.{arith}
 use lib.ListN.{length}
 use lib.Dec.{eqb}
 use borrow.Author.Tests.{eq-eqb, eqb-true}
-use Rattle.protocol.proofs.Bools.{Is, and-l, and-r, both, by-cond}
+use Rattle.words.proofs.Bools.{Is, and-l, and-r, both, by-cond}
 use Rattle.model.specs.declared.shape.Shape.{Shape}
 use Rattle.model.specs.Shape.{within, isSets, inRange, fits, refusalOf, entries}
 use Rattle.model.specs.Tables.{Model, lentRefusal}

@@ -12,13 +12,13 @@ use lib.Dec.{eqb}
 use borrow.Author.Tests.{eq-eqb, ne-eqb}
 use Rattle.protocol.specs.declared.state.Mode.{Mode}
 use Rattle.protocol.specs.declared.state.Mode.the-variants.{Through, Back}
-use Rattle.protocol.specs.declared.access.Access.{Access}
-use Rattle.protocol.specs.declared.access.Access.the-variants.{Read, Write, Swap}
-use Rattle.protocol.specs.Bools.{bit}
-use Rattle.protocol.specs.Word.{half}
-use Rattle.protocol.specs.Access.{effectAt, writes}
-use Rattle.protocol.proofs.Bools.{Is, by-bool}
-use Rattle.protocol.proofs.Effects.{read-effect, write-effect, swap-succeeds, swap-fails}
+use Rattle.words.specs.declared.access.Access.{Access}
+use Rattle.words.specs.declared.access.Access.the-variants.{Read, Write, Swap}
+use Rattle.words.specs.Bools.{bit}
+use Rattle.words.specs.Word.{half}
+use Rattle.words.specs.Access.{effectAt, writes}
+use Rattle.words.proofs.Bools.{Is, by-bool}
+use Rattle.words.proofs.Effects.{read-effect, write-effect, swap-succeeds, swap-fails}
 use Rattle.model.specs.declared.shape.Shape.{Shape}
 use Rattle.model.specs.declared.order.Call.the-variants.{ByPort, Flush, DeviceRead}
 use Rattle.model.specs.declared.order.Decoded.{Decoded}

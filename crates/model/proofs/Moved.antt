@@ -9,16 +9,16 @@ use lib.Dec.{eqb}
 use borrow.Author.Tests.{not-true}
 use Rattle.protocol.specs.declared.state.Mode.{Mode}
 use Rattle.protocol.specs.declared.state.Mode.the-variants.{Through, Back}
-use Rattle.protocol.specs.declared.access.Access.{Access}
-use Rattle.protocol.specs.declared.access.Access.the-variants.{Read, Write, Swap}
-use Rattle.protocol.specs.declared.access.Outcome.{Outcome}
-use Rattle.protocol.specs.declared.access.Effect.{Effect}
-use Rattle.protocol.specs.Bools.{bit}
+use Rattle.words.specs.declared.access.Access.{Access}
+use Rattle.words.specs.declared.access.Access.the-variants.{Read, Write, Swap}
+use Rattle.words.specs.declared.access.Outcome.{Outcome}
+use Rattle.words.specs.declared.access.Effect.{Effect}
+use Rattle.words.specs.Bools.{bit}
 use Rattle.protocol.specs.State.{isBack, isThrough}
-use Rattle.protocol.specs.Word.{half}
-use Rattle.protocol.specs.Access.{effectAt, writes}
-use Rattle.protocol.proofs.Bools.{Is, by-bool}
-use Rattle.protocol.proofs.Effects.{read-effect, write-effect, swap-succeeds, swap-fails}
+use Rattle.words.specs.Word.{half}
+use Rattle.words.specs.Access.{effectAt, writes}
+use Rattle.words.proofs.Bools.{Is, by-bool}
+use Rattle.words.proofs.Effects.{read-effect, write-effect, swap-succeeds, swap-fails}
 use Rattle.model.specs.Flat.{Flat, FlatAnswer, FlatResult, flatAnswer, wordIn, markIn, flatRead, flatWrite, flatAccess}
 
 -- The mark after an access with an outcome in a mode: set by a write in write back, cleared in write through, else as it was.

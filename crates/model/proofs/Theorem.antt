@@ -8,7 +8,7 @@ use lib.Dec.{eqb}
 use Rattle.protocol.specs.declared.state.State.{State}
 use Rattle.protocol.specs.declared.state.State.the-variants.{I}
 use Rattle.protocol.specs.State.{stateOf}
-use Rattle.protocol.proofs.Bools.{Is, contra}
+use Rattle.words.proofs.Bools.{Is, contra}
 use Rattle.model.specs.declared.shape.Shape.{Shape}
 use Rattle.model.specs.Shape.{entries, tagOf, entryOf}
 use Rattle.model.specs.Order.{Order}

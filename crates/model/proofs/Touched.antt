@@ -10,7 +10,7 @@ use borrow.Author.Tests.{lt-ltb}
 use Rattle.protocol.specs.declared.state.State.{State}
 use Rattle.protocol.specs.declared.state.State.the-variants.{I}
 use Rattle.protocol.specs.State.{code, stateOf, isState, valid}
-use Rattle.protocol.proofs.Bools.{Is, or-r, both, by-bool}
+use Rattle.words.proofs.Bools.{Is, or-r, both, by-bool}
 use Rattle.protocol.proofs.States.{owner-valid, not-valid, stateOf-code}
 use Rattle.model.specs.declared.shape.Shape.{Shape}
 use Rattle.model.specs.Shape.{entries, indexOf, tagOf, entryOf}

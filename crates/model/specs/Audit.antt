@@ -3,7 +3,7 @@ use Prim.Native.Nat.{ℕ, _<_}
 use mathlib.Core.Path.{_≡_}
 use mathlib.Core.Bool.{Bool, true, false, cond, _&&_, not}
 use lib.Dec.{eqb}
-use Rattle.protocol.specs.Bools.{implies}
+use Rattle.words.specs.Bools.{implies}
 use Rattle.protocol.specs.State.{isO, exclusive, modeOf, sameMode}
 use Rattle.model.specs.declared.shape.Shape.{Shape}
 use Rattle.model.specs.Shape.{entries}

@@ -6,10 +6,10 @@ use mathlib.Core.List.{List}
 use lib.ListN.{getD, set, length, replicate}
 use lib.Dec.{eqb}
 use Rattle.protocol.specs.declared.state.Mode.{Mode}
-use Rattle.protocol.specs.declared.access.Access.{Access}
-use Rattle.protocol.specs.declared.access.Access.the-variants.{Read, Write, Swap}
+use Rattle.words.specs.declared.access.Access.{Access}
+use Rattle.words.specs.declared.access.Access.the-variants.{Read, Write, Swap}
 use Rattle.protocol.specs.State.{isBack}
-use Rattle.protocol.specs.Word.{merge, half}
+use Rattle.words.specs.Word.{merge, half}
 use Rattle.model.specs.declared.shape.Shape.{Shape}
 use Rattle.model.specs.declared.order.Call.the-variants.{ByPort, Flush, DeviceRead}
 use Rattle.model.specs.declared.order.Decoded.{Decoded}

@@ -8,8 +8,8 @@ use mathlib.Core.List.{List, [], _∷_}
 use lib.ListN.{getD, length}
 use lib.Dec.{eqb}
 use Rattle.protocol.specs.declared.state.Mode.the-variants.{Through, Back}
-use Rattle.protocol.specs.declared.access.Access.{Access}
-use Rattle.protocol.specs.declared.access.Access.the-variants.{Read, Write, Swap}
+use Rattle.words.specs.declared.access.Access.{Access}
+use Rattle.words.specs.declared.access.Access.the-variants.{Read, Write, Swap}
 use Rattle.model.specs.declared.shape.Shape.{Shape}
 use Rattle.model.specs.declared.order.Call.the-variants.{ByPort, Flush, DeviceRead}
 use Rattle.model.specs.declared.order.Decoded.{Decoded}

@@ -5,13 +5,13 @@ use mathlib.Core.List.{List}
 use lib.ListN.{getD, set}
 use lib.Dec.{eqb}
 use Rattle.protocol.specs.declared.state.Mode.{Mode}
-use Rattle.protocol.specs.declared.access.Access.{Access}
-use Rattle.protocol.specs.declared.access.Effect.{Effect}
+use Rattle.words.specs.declared.access.Access.{Access}
+use Rattle.words.specs.declared.access.Effect.{Effect}
 use Rattle.protocol.specs.declared.rules.Rule.{Rule}
 use Rattle.protocol.specs.State.{code, owner}
-use Rattle.protocol.specs.Access.{effectAt}
+use Rattle.words.specs.Access.{effectAt}
 use Rattle.protocol.specs.Rules.{rule, flushRule, snooped, updates}
-use Rattle.protocol.specs.Bools.{bit}
+use Rattle.words.specs.Bools.{bit}
 use Rattle.model.specs.declared.shape.Shape.{Shape}
 use Rattle.model.specs.declared.order.Call.the-variants.{ByPort, Flush, DeviceRead}
 use Rattle.model.specs.declared.order.Decoded.{Decoded}

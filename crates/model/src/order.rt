@@ -1,6 +1,6 @@
 // An order, taken apart.
-use protocol::access::Access;
 use protocol::state::Mode;
+use words::access::Access;
 
 // What an order asks: an access in a mode, by a port, of a line; a flush, by a port, of a line; a device read of a line.
 pub enum Call {

@@ -10,7 +10,7 @@ use lib.Dec.{eqb}
 use lib.ListN.{getD, set, length, replicate, replicate-append-replicate}
 use lib.Seq.{sets, length-sets}
 use borrow.Author.Tests.{eq-eqb, ne-eqb, eqb-true}
-use Rattle.protocol.proofs.Bools.{Is, and-l, and-r, by-cond}
+use Rattle.words.proofs.Bools.{Is, and-l, and-r, by-cond}
 use Rattle.endian.specs.Little.{numbers, bytesOf, encoded}
 use Rattle.endian.proofs.Little.{get-numbers, length-numbers, set-numbers, same-bytes}
 use Rattle.model.specs.declared.shape.Shape.{Shape}
@@ -21,40 +21,15 @@ use Rattle.model.specs.Tables.{Model, lentRefusal, memoryAt}
 use Rattle.model.specs.Step.{result, refused, store, step}
 use Rattle.model.specs.Fresh.{fresh, zeroed}
 use Rattle.model.specs.Audit.{audit, tablesPass}
-use Rattle.packed_audit.specs.Fitting as audited
-use Rattle.protocol.specs.Bools.{bit}
+use Rattle.packed.specs.Fitting as audited
+use Rattle.words.specs.Bools.{bit}
 use Rattle.model.proofs.Lent.{facts-lent, some-sets}
 use Rattle.ports.specs.declared.line.Line.{Line}
 use Rattle.ports.specs.Line.{lineOf}
 use Rattle.packed.specs.Packed.{Packed, wordIn}
-use Rattle.moesi.specs.Host.{Bytes, bytes, modelIn, inBytes, bytesFit, Fitting, refusalBy, hostRefusal, answerBytes, hosted, hostStep, hostFresh, hostAudit}
-
--- A store in memory's bytes is a store in its words.
-pub stored : (n : ℕ) (m : List ℕ) {m' : List ℕ} {on : Bool} {k w : ℕ} → on ≡ true → length m ≡ 8 * n → k < n → w < 2 ^ 64 → m' ≡ sets m (8 * k) (bytesOf 8 w)
-    → numbers 8 n m' ≡ store on k w (numbers 8 n m)
-stored n m {k = k} {w = w} o l q f e = rw (o, e) (set-numbers 8 n k w m q (omega arith) (omega (arith, l)))
-
-module _ {s : Shape} {b : Bytes} (f : Fitting s b) where
-  -- The model that fitting bytes hold is accepted.
-  pub lent : lentRefusal s (modelIn s b) ≡ 0
-  unfolding modelIn
-  lent = facts-lent s (modelIn s b) (record { range = f .range; sizes = record { memory = length-numbers 8 (s .lines) (b .memory); tags = length-numbers 4 (entries s) (b .tags); states = f .filled .states-fit; words = length-numbers 8 (entries s) (b .words) } })
-
-  -- The tables of a line are packed in the bytes.
-  pub packed : (a : ℕ) {l : Line} → l ≡ lineOf s a → Packed l (b .tags) (b .states) (b .words)
-  unfolding lineOf
-  packed a e = rw e (record { tags-fit = f .filled .tags-fit; states-fit = f .filled .states-fit; words-fit = f .filled .words-fit; index = mod-lt a (some-sets s (f .range)) })
-
-  pub in-memory : {a : ℕ} → a < s .lines → 8 * a + 8 ≤ length (b .memory)
-  in-memory h = omega (arith, f .memory-fits)
-
-  pub memory-word : {a : ℕ} → a < s .lines → {w : ℕ} → w ≡ wordIn (b .memory) a → w ≡ memoryAt (modelIn s b) a
-  unfolding modelIn
-  memory-word {a} h e = e ∙ sym (get-numbers 8 (s .lines) a (b .memory) h)
-
-  pub in-lines : {k : ℕ} → k < length (modelIn s b .memory) → k < s .lines
-  unfolding modelIn
-  in-lines h = rw (length-numbers 8 (s .lines) (b .memory)) at h
+use Rattle.packed_step.specs.Bytes.{Bytes, bytes, modelIn, Fitting}
+use Rattle.packed_step.proofs.Bytes.{lent}
+use Rattle.moesi.specs.Host.{inBytes, bytesFit, refusalBy, hostRefusal, answerBytes, hosted, hostStep, hostFresh, hostAudit}
 
 -- Refusal 0: the slices fit the shape.
 module _ (s : Shape) (memory tags states words : ℕ) (out : Bool) where

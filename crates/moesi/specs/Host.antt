@@ -1,13 +1,12 @@
 -- The model as a C host lends it: main memory and the tables in little-endian bytes, the answer in 40 bytes, the verdict in one.
 use Prim.Native.Nat.{ℕ, _*_}
-use mathlib.Core.Path.{_≡_}
 use mathlib.Core.Bool.{Bool, true, cond, _&&_}
 use mathlib.Core.List.{List, [], _∷_}
 use lib.ListN.{length}
 use lib.Dec.{eqb}
-use Rattle.protocol.specs.Bools.{bit}
+use Rattle.words.specs.Bools.{bit}
 use Rattle.endian.specs.Little.{encoded}
-use Rattle.packed_audit.specs.Fitting as held
+use Rattle.packed_step.specs.Bytes.{Bytes, bytes, modelIn}
 use Rattle.model.specs.declared.shape.Shape.{Shape}
 use Rattle.model.specs.declared.answer.Answer.{Answer}
 use Rattle.model.specs.Shape.{inRange, entries}
@@ -17,19 +16,6 @@ use Rattle.model.specs.Step.{refused, step}
 use Rattle.model.specs.Fresh.{fresh}
 use Rattle.model.specs.Audit.{audit}
 
-pub record Bytes : Type 0 where
-  pub memory : List ℕ
-  pub tags : List ℕ
-  pub states : List ℕ
-  pub words : List ℕ
-
-abbrev pub bytes : List ℕ → List ℕ → List ℕ → List ℕ → Bytes
-bytes memory tags states words = record { memory = memory; tags = tags; states = states; words = words }
-
--- The model that the bytes hold: eight bytes for a word of memory or of the data table, four for a tag, one for a state.
-unfoldable pub modelIn : Shape → Bytes → Model
-modelIn s b = held.modelIn s (b .memory) (b .tags) (b .states) (b .words)
-
 -- A model in bytes.
 unfoldable pub inBytes : Model → Bytes
 inBytes t = bytes (encoded 8 (t .memory)) (encoded 4 (t .tags)) (t .states) (encoded 8 (t .words))
@@ -37,10 +23,6 @@ inBytes t = bytes (encoded 8 (t .memory)) (encoded 4 (t .tags)) (t .states) (enc
 -- Slices of these lengths have exactly the bytes of the entries that the shape gives.
 unfoldable pub bytesFit : Shape → ℕ → ℕ → ℕ → ℕ → Bool
 bytesFit s memory tags states words = eqb memory (8 * s .lines) && eqb tags (4 * entries s) && eqb states (entries s) && eqb words (8 * entries s)
-
--- The shape is in its range, and the slices have its bytes.
-abbrev pub Fitting : Shape → Bytes → Type 0
-Fitting s b = held.Fitting s (b .memory) (b .tags) (b .states) (b .words)
 
 -- Refusal 2, a number of the shape outside its range; refusal 3, another length of a slice; else 0. `out` says that the slice written to
 -- has its length.

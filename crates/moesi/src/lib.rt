@@ -5,12 +5,11 @@ ghost use mathlib.Core.Path.{_≡_};
 ghost use mathlib.Core.Bool.{true};
 ghost use lib.ListN.{length};
 ghost use mathlib.Core.List.{[]};
-ghost use Rattle.protocol.specs.Bools.{bit};
+ghost use Rattle.words.specs.Bools.{bit};
 ghost use Rattle.model.specs.Shape.{inRange};
 ghost use Rattle.decode.specs.Order.{order};
-ghost use Rattle.moesi.specs.Host.{bytes, bytesFit, refusalBy, answerBytes, hosted, hostStep, hostFresh, hostAudit};
-
-mod order;
+ghost use Rattle.packed_step.specs.Bytes.{bytes};
+ghost use Rattle.moesi.specs.Host.{bytesFit, refusalBy, answerBytes, hosted, hostStep, hostFresh, hostAudit};
 
 // The lengths of the slices in bytes are those of the shape.
 fn bytes_fit(shape: Shape, memory: usize, tags: usize, states: usize, data: usize) -> bool
@@ -85,7 +84,7 @@ pub extern "C" fn moesi_step(
         }
         return n;
     }
-    let a = order::step_bytes(shape, memory, tags, states, data, word, operand);
+    let a = packed_step::step_bytes(shape, memory, tags, states, data, word, operand);
     put_answer(answer, a.refusal, a.value, a.swapped, a.reads, a.writes);
     a.refusal
 }

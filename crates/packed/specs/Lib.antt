@@ -1,2 +1,3 @@
 -- The three tables as little-endian bytes.
 pub mod Packed
+pub mod Fitting

@@ -19,7 +19,7 @@ use Rattle.audit.specs.declared.Held.{Held}
 use Rattle.audit.specs.declared.Holders.{Holders}
 use Rattle.audit.specs.Entries.{lookOf, heldAt, goesWith, columnsPass}
 use Rattle.audit.proofs.Columns.{columns-audit}
-use Rattle.packed_audit.specs.Fitting.{tablesIn, modelIn, Filled, Fitting}
+use Rattle.packed.specs.Fitting.{tablesIn, modelIn, Filled, Fitting}
 
 module _ {s : Shape} {g h d : List ℕ} (v : Filled s g h d) where
   -- An entry read, and its tag by itself.

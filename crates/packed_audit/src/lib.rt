@@ -9,7 +9,7 @@ ghost use Prim.Native.Nat.{_<_};
 ghost use Rattle.model.specs.Shape.{entries};
 ghost use Rattle.model.specs.Audit.{tablesPass};
 ghost use Rattle.audit.specs.Entries.{heldAt, asked, holdersOf, entryPasses, indexPasses, columnsPass};
-ghost use Rattle.packed_audit.specs.Fitting.{tablesIn, modelIn, Filled, Fitting};
+ghost use Rattle.packed.specs.Fitting.{tablesIn, modelIn, Filled, Fitting};
 
 // Entry k of the tables.
 fn held_at(shape: Shape, tags: &[u8], states: &[u8], words: &[u8], k: usize) -> Held

@@ -5,11 +5,11 @@ use Rattle.protocol.specs.declared.state.Mode.{Mode}
 use Rattle.protocol.specs.declared.state.Mode.the-variants.{Through, Back}
 use Rattle.protocol.specs.declared.state.State.{State}
 use Rattle.protocol.specs.declared.state.State.the-variants.{I, S, E, O, M}
-use Rattle.protocol.specs.declared.access.Outcome.{Outcome}
-use Rattle.protocol.specs.declared.access.Outcome.the-variants.{Reads, Fails, Writes}
+use Rattle.words.specs.declared.access.Outcome.{Outcome}
+use Rattle.words.specs.declared.access.Outcome.the-variants.{Reads, Fails, Writes}
 use Rattle.protocol.specs.declared.rules.Bus.{Bus}
 use Rattle.protocol.specs.declared.rules.Bus.the-variants.{Quiet, Share, Update, Invalidate, ShareOwned}
-use Rattle.protocol.proofs.Bools.{Is, and-l, and-r}
+use Rattle.words.proofs.Bools.{Is, and-l, and-r}
 
 abbrev pub forBools : (Bool → Bool) → Bool
 forBools p = p true && p false

@@ -4,15 +4,15 @@ use mathlib.Core.Bool.{Bool, false, _&&_, _||_, not}
 use Rattle.protocol.specs.declared.state.Mode.{Mode}
 use Rattle.protocol.specs.declared.state.State.{State}
 use Rattle.protocol.specs.declared.state.State.the-variants.{I}
-use Rattle.protocol.specs.declared.access.Outcome.{Outcome}
+use Rattle.words.specs.declared.access.Outcome.{Outcome}
 use Rattle.protocol.specs.declared.rules.Bus.{Bus}
 use Rattle.protocol.specs.declared.rules.Bus.the-variants.{Quiet, Share, Update, Invalidate, ShareOwned}
 use Rattle.protocol.specs.declared.rules.Rule.{Rule}
-use Rattle.protocol.specs.Bools.{implies}
+use Rattle.words.specs.Bools.{implies}
 use Rattle.protocol.specs.State.{valid, owner, exclusive, isO, modeOf, sameMode, isThrough}
-use Rattle.protocol.specs.Access.{writes}
+use Rattle.words.specs.Access.{writes}
 use Rattle.protocol.specs.Rules.{rule, flushRule, snooped, updates}
-use Rattle.protocol.proofs.Bools.{Is}
+use Rattle.words.proofs.Bools.{Is}
 use Rattle.protocol.proofs.Finite.{forBools, forModes, forOutcomes, forStates, at-bool, at-mode, at-outcome, at-state, at-bus}
 
 -- Two ports may hold one line in these states: equal modes, neither E nor M, and one O at most. A port in I goes with any.

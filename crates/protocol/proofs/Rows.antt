@@ -10,18 +10,18 @@ use Rattle.protocol.specs.declared.state.Mode.{Mode}
 use Rattle.protocol.specs.declared.state.Mode.the-variants.{Through, Back}
 use Rattle.protocol.specs.declared.state.State.{State}
 use Rattle.protocol.specs.declared.state.State.the-variants.{I, S, E, O, M}
-use Rattle.protocol.specs.declared.access.Outcome.{Outcome}
-use Rattle.protocol.specs.declared.access.Outcome.the-variants.{Reads, Fails, Writes}
+use Rattle.words.specs.declared.access.Outcome.{Outcome}
+use Rattle.words.specs.declared.access.Outcome.the-variants.{Reads, Fails, Writes}
 use Rattle.protocol.specs.declared.rules.Bus.{Bus}
 use Rattle.protocol.specs.declared.rules.Bus.the-variants.{Quiet, Share, Update, Invalidate, ShareOwned}
 use Rattle.protocol.specs.declared.rules.Rule.{Rule}
 use Rattle.protocol.specs.declared.rules.Row.{Row}
 use Rattle.protocol.specs.declared.rules.Coded.{Coded}
-use Rattle.protocol.specs.Bools.{bit}
+use Rattle.words.specs.Bools.{bit}
 use Rattle.protocol.specs.State.{code, stateOf, isState, orInvalid}
 use Rattle.protocol.specs.Rules.{rule, snooped, updates}
 use Rattle.protocol.specs.Coded.{busNumber, busAt, coded, pack, nibbleAt, packed, actNumber, ownRow, outcomeNumber, modeNumber, outcomeAt, modeAt, ownRowAt, snoopRow}
-use Rattle.protocol.proofs.Bools.{Is, by-bool, by-cond}
+use Rattle.words.proofs.Bools.{Is, by-bool, by-cond}
 use Rattle.protocol.proofs.Finite.{at-bus}
 use Rattle.protocol.proofs.States.{code-small, code-stateOf}
 

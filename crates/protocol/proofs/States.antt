@@ -11,9 +11,9 @@ use Rattle.protocol.specs.declared.state.Mode.the-variants.{Through, Bac
 use Rattle.protocol.specs.declared.state.State.{State}
 use Rattle.protocol.specs.declared.state.State.the-variants.{I, S, E, O, M}
 use Rattle.protocol.specs.declared.state.Byte.the-variants.{Of}
-use Rattle.protocol.specs.Bools.{implies}
+use Rattle.words.specs.Bools.{implies}
 use Rattle.protocol.specs.State.{code, stateOf, isState, orInvalid, valid, owner, exclusive, isO, sameMode}
-use Rattle.protocol.proofs.Bools.{Is, mp}
+use Rattle.words.proofs.Bools.{Is, mp}
 use Rattle.protocol.proofs.Finite.{at-state}
 
 pub owner-valid : (s : State) → Is (owner s) → Is (valid s)

@@ -7,14 +7,14 @@ use Rattle.protocol.specs.declared.state.Mode.{Mode}
 use Rattle.protocol.specs.declared.state.Mode.the-variants.{Through, Back}
 use Rattle.protocol.specs.declared.state.State.{State}
 use Rattle.protocol.specs.declared.state.State.the-variants.{I, S, E, O, M}
-use Rattle.protocol.specs.declared.access.Outcome.{Outcome}
-use Rattle.protocol.specs.declared.access.Outcome.the-variants.{Reads, Fails, Writes}
+use Rattle.words.specs.declared.access.Outcome.{Outcome}
+use Rattle.words.specs.declared.access.Outcome.the-variants.{Reads, Fails, Writes}
 use Rattle.protocol.specs.declared.rules.Bus.{Bus}
 use Rattle.protocol.specs.declared.rules.Bus.the-variants.{Quiet, Share, Update, Invalidate, ShareOwned}
 use Rattle.protocol.specs.declared.rules.Rule.{Rule}
 use Rattle.protocol.specs.declared.rules.Coded.{Coded}
 use Rattle.protocol.specs.declared.rules.Row.{Row}
-use Rattle.protocol.specs.Bools.{bit}
+use Rattle.words.specs.Bools.{bit}
 use Rattle.protocol.specs.State.{code}
 use Rattle.protocol.specs.Rules.{rule, snooped}
 

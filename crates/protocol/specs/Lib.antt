@@ -1,7 +1,4 @@
 -- The definitions of the protocol, from states and words up to the two rule tables and their numbers.
-pub mod Bools
 pub mod State
-pub mod Word
-pub mod Access
 pub mod Rules
 pub mod Coded

@@ -1,5 +1,3 @@
 // The coherence protocol of one line, on values alone: no table and no address enters it.
-pub mod access;
 pub mod rules;
 pub mod state;
-pub mod word;

@@ -1,11 +1,11 @@
 // Bus commands and the two rule tables: the port's own, and the snoop table of the other holders.
-use crate::access::Outcome;
 use crate::state::Mode;
 use crate::state::State;
+use words::access::Outcome;
 ghost use mathlib.Core.Path.{_≡_};
 ghost use mathlib.Core.Bool.{true};
 ghost use Prim.Native.Nat.{_<_, _≤_, _%_};
-ghost use Rattle.protocol.specs.Bools.{bit};
+ghost use Rattle.words.specs.Bools.{bit};
 ghost use Rattle.protocol.specs.State.{code, stateOf, orInvalid, isState};
 ghost use Rattle.protocol.specs.Rules.{rule, snooped, updates};
 ghost use Rattle.protocol.specs.Coded.{busAt, coded, nibbleAt, outcomeNumber, modeNumber, ownRowAt, snoopRow};

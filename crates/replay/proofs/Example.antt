@@ -1,8 +1,8 @@
 -- Document 01's example, by computation. Assumes nothing.
 use mathlib.Core.Path.{refl}
 use Rattle.protocol.specs.State.{code, stateOf}
-use Rattle.protocol.specs.Word.{merge, mergeLow}
-use Rattle.protocol.specs.Access.{effectAt}
+use Rattle.words.specs.Word.{merge, mergeLow}
+use Rattle.words.specs.Access.{effectAt}
 use Rattle.protocol.specs.Rules.{rule, flushRule, snooped, updates}
 use Rattle.endian.specs.Little.{number, bytesOf, encoded}
 use Rattle.model.specs.Shape.{inRange, fits, refusalOf}

@@ -9,10 +9,10 @@ use native.Mathlib.Nat.{mod-lt, mul-le-mul}
 use lib.ListN.{length}
 use borrow.Author.Tests.{eq-eqb, ne-eqb}
 use Rattle.protocol.specs.declared.state.Mode.{Mode}
-use Rattle.protocol.specs.declared.access.Access.{Access}
-use Rattle.protocol.specs.Bools.{bit}
+use Rattle.words.specs.declared.access.Access.{Access}
+use Rattle.words.specs.Bools.{bit}
 use Rattle.protocol.specs.State.{valid, owner}
-use Rattle.protocol.proofs.Bools.{Is, and-r}
+use Rattle.words.proofs.Bools.{Is, and-r}
 use Rattle.model.specs.declared.shape.Shape.{Shape}
 use Rattle.model.specs.declared.order.Call.{Call}
 use Rattle.model.specs.declared.order.Call.the-variants.{ByPort, Flush, DeviceRead}

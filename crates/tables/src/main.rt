@@ -1,12 +1,12 @@
 // Prints the two rule tables from the proved code, a row for each case: what a port does itself, and what another holder does. Columns
 // are separated by blanks, and no entry has a blank in it; a line that starts with # explains. What it prints is kept in the file stdout:
 // the published table.
-use protocol::access::Outcome;
 use protocol::rules;
 use protocol::state;
 use protocol::state::Byte;
 use protocol::state::Mode;
 use protocol::state::State;
+use words::access::Outcome;
 ghost use mathlib.Core.Path.{_≡_};
 ghost use mathlib.Core.Bool.{true};
 ghost use Prim.Native.Nat.{_<_};

@@ -3,7 +3,7 @@ use Prim.Native.Nat.{_-_}
 use lib.Arith.{digits-lt}
 use native.Mathlib.Omega.{arith}
 use Rattle.audit.proofs.Holding.{Holding, holding-none, holding-more, holding-done}
-use Rattle.packed_audit.specs.Fitting.{tablesIn}
+use Rattle.packed.specs.Fitting.{tablesIn}
 use Rattle.packed_audit.proofs.ask_holders.Statement.{statement}
 use Rattle.packed_audit.proofs.ask_holders.Tie as tie
 

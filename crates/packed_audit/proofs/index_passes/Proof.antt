@@ -3,7 +3,7 @@ use Prim.Native.Nat.{_-_}
 use native.Mathlib.Omega.{arith}
 use Rattle.audit.specs.Entries.{entryPasses, indexPasses}
 use Rattle.audit.proofs.Passing.{Passing, passing-none, passing-fails, passing-more, passing-done}
-use Rattle.packed_audit.specs.Fitting.{modelIn}
+use Rattle.packed.specs.Fitting.{modelIn}
 use Rattle.packed_audit.proofs.index_passes.Statement.{statement}
 use Rattle.packed_audit.proofs.index_passes.Tie as tie
 

@@ -1,2 +1,0 @@
--- Main memory and the tables as little-endian bytes.
-pub mod Fitting

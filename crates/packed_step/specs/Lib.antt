@@ -1,0 +1,2 @@
+-- Main memory and the tables as one group of lent bytes.
+pub mod Bytes

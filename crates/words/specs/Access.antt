@@ -1,0 +1,25 @@
+-- What an access does at the word that it finds.
+use Prim.Native.Nat.{ℕ}
+use mathlib.Core.Bool.{Bool, true, false, cond}
+use lib.Dec.{eqb}
+use Rattle.words.specs.declared.access.Access.{Access}
+use Rattle.words.specs.declared.access.Access.the-variants.{Read, Write, Swap}
+use Rattle.words.specs.declared.access.Outcome.{Outcome}
+use Rattle.words.specs.declared.access.Outcome.the-variants.{Reads, Fails, Writes}
+use Rattle.words.specs.declared.access.Effect.{Effect}
+use Rattle.words.specs.Word.{merge, half}
+
+abbrev pub effect : Outcome → ℕ → ℕ → Bool → Effect
+effect o w v s = record { outcome = o; word = w; value = v; swapped = s }
+
+-- A read's value is the word, and a write's is 0. A swap's is the word before; it succeeds if the half compared is equal, and then merges.
+unfoldable pub effectAt : Access → ℕ → Effect
+effectAt Read w = effect Reads w w false
+effectAt (Write mask x) w = effect Writes (merge mask w x) 0 false
+effectAt (Swap mask compare x) w = cond (eqb (half mask w) compare) (effect Writes (merge mask w x) w true) (effect Fails w w false)
+
+-- A write, or a swap that succeeds.
+abbrev pub writes : Outcome → Bool
+writes Reads = false
+writes Fails = false
+writes Writes = true

@@ -1,0 +1,3 @@
+// Words and what an access does at the word that it finds, on values alone.
+pub mod access;
+pub mod word;
