@@ -1,10 +1,11 @@
-/* Times the library, the walking model and the second model on the same orders, in turn, in one process. */
+/* Times the library, the plain model, the walking model and the second model on the same orders, in turn, in one process. */
 
 #define _POSIX_C_SOURCE 200809L
 
 #include "../tests/generator.h"
 #include "../tests/second_model.h"
 #include "moesi.h"
+#include "plain_model.h"
 #include "walking_model.h"
 
 #include <stdio.h>
@@ -14,9 +15,11 @@
 
 enum { ORDERS = 4096, ALIGNMENT = 64, MOST_BYTES = 8 * SECOND_MAX_LINES };
 
-enum subject { LIBRARY, WALKING, SECOND, SUBJECTS };
+enum subject { LIBRARY, PLAIN, WALKING, SECOND, SUBJECTS };
 
-/* What one of the two byte models works on; the second model has arrays of its own. */
+enum { BYTE_MODELS = SECOND };
+
+/* What one of the byte models works on; the second model has arrays of its own. */
 struct bytes {
     uint8_t *memory, *tags, *states, *data;
     uint8_t answer[SECOND_ANSWER_BYTES];
@@ -26,7 +29,7 @@ struct bytes {
 struct bench {
     struct second_shape shape;
     struct second_lengths lengths;
-    struct bytes bytes[2];
+    struct bytes bytes[BYTE_MODELS];
     struct second_model second;
     uint64_t words[ORDERS];
     uint64_t operands[ORDERS];
@@ -42,9 +45,9 @@ typedef uint64_t step_call(uint64_t, uint64_t, uint64_t, uint64_t, uint64_t, uin
 typedef uint64_t audit_call(uint64_t, uint64_t, uint64_t, const uint8_t *, size_t, const uint8_t *, size_t,
                             const uint8_t *, size_t, const uint8_t *, size_t, uint8_t *, size_t);
 
-static fresh_call *const fresh_calls[2] = {moesi_fresh, walking_fresh};
-static step_call *const step_calls[2] = {moesi_step, walking_step};
-static audit_call *const audit_calls[2] = {moesi_audit, walking_audit};
+static fresh_call *const fresh_calls[BYTE_MODELS] = {moesi_fresh, plain_fresh, walking_fresh};
+static step_call *const step_calls[BYTE_MODELS] = {moesi_step, plain_step, walking_step};
+static audit_call *const audit_calls[BYTE_MODELS] = {moesi_audit, plain_audit, walking_audit};
 
 /* One round of each call: the work that is timed. */
 
@@ -126,8 +129,9 @@ static void print_row(const struct bench *bench, const char *what, const double 
 
     snprintf(shape, sizeof shape, "%u/%u/%u", (unsigned)bench->shape.ports, (unsigned)bench->shape.sets,
              (unsigned)bench->shape.lines);
-    printf("%-10s %-19s %12.0f %12.0f %12.0f %9.2f %9.2f\n", shape, what, 1 / best[LIBRARY], 1 / best[WALKING],
-           1 / best[SECOND], best[LIBRARY] / best[WALKING], best[LIBRARY] / best[SECOND]);
+    printf("%-10s %-19s %11.0f %11.0f %11.0f %11.0f %9.2f %9.2f %10.2f\n", shape, what, 1 / best[LIBRARY],
+           1 / best[PLAIN], 1 / best[WALKING], 1 / best[SECOND], best[LIBRARY] / best[PLAIN],
+           best[LIBRARY] / best[WALKING], best[LIBRARY] / best[SECOND]);
 }
 
 /* States. */
@@ -151,18 +155,18 @@ static void start(struct bench *bench, struct second_shape shape)
     for (size_t line = 0; line < shape.lines; line++)
         bench->second.memory[line] = line;
     second_fresh(&bench->second);
-    for (int k = 0; k < 2; k++)
+    for (int k = 0; k < BYTE_MODELS; k++)
         second_encode(&bench->second, bench->bytes[k].memory, bench->bytes[k].tags, bench->bytes[k].states,
                       bench->bytes[k].data);
 }
 
-/* Whether the three have come to the same memory and tables. */
+/* Whether all have come to the same memory and tables. */
 static int states_agree(const struct bench *bench, struct bytes *scratch)
 {
     struct second_lengths n = bench->lengths;
 
     second_encode(&bench->second, scratch->memory, scratch->tags, scratch->states, scratch->data);
-    for (int k = 0; k < 2; k++) {
+    for (int k = 0; k < BYTE_MODELS; k++) {
         const struct bytes *b = &bench->bytes[k];
 
         if (memcmp(b->memory, scratch->memory, n.memory) != 0 || memcmp(b->tags, scratch->tags, n.tags) != 0 ||
@@ -309,7 +313,7 @@ static int time_shape(struct bench *bench, struct second_shape shape, struct byt
     agree &= states_agree(bench, scratch);
     time_tables(bench);
     if (!agree)
-        printf("the three differ after the orders at this shape\n");
+        printf("the models differ after the orders at this shape\n");
     return agree;
 }
 
@@ -334,27 +338,27 @@ int main(int argc, char **argv)
 {
     static const struct second_shape shapes[5] = {{1, 1, 1}, {2, 1, 2}, {4, 16, 1024}, {8, 64, 64}, {8, 64, 4096}};
     static struct bench bench;
-    struct bytes all[3];
+    struct bytes all[BYTE_MODELS + 1];
     int agree = 1;
 
     bench.repetitions = argc > 1 ? atoi(argv[1]) : 200;
-    for (int k = 0; k < 3; k++) {
+    for (int k = 0; k <= BYTE_MODELS; k++) {
         all[k].memory = get_bytes();
         all[k].tags = get_bytes();
         all[k].states = get_bytes();
         all[k].data = get_bytes();
     }
-    bench.bytes[0] = all[0];
-    bench.bytes[1] = all[1];
-    printf("%-10s %-19s %12s %12s %12s %9s %9s\n", "shape", "calls per second of", "library", "walking", "second",
-           "lib/walk", "lib/second");
+    for (int k = 0; k < BYTE_MODELS; k++)
+        bench.bytes[k] = all[k];
+    printf("%-10s %-19s %11s %11s %11s %11s %9s %9s %10s\n", "shape", "calls per second of", "library", "plain",
+           "walking", "second", "lib/plain", "lib/walk", "lib/second");
     for (int k = 0; k < 5; k++)
-        agree = time_shape(&bench, shapes[k], &all[2]) && agree;
+        agree = time_shape(&bench, shapes[k], &all[BYTE_MODELS]) && agree;
     time_growth(&bench);
-    printf("The last two columns are times over times: below 1 the library is the faster one. Each row is the best of\n"
+    printf("The last three columns are times over times: below 1 the library is the faster one. Each row is the best of\n"
            "its repetitions, after a warm-up, from a fresh model. The second model works on decoded arrays and checks no\n"
            "shape and no length. In the mix the swaps compare with 0, and nearly all fail.\n");
-    for (int k = 0; k < 3; k++) {
+    for (int k = 0; k <= BYTE_MODELS; k++) {
         free(all[k].memory);
         free(all[k].tags);
         free(all[k].states);

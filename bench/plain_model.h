@@ -1,0 +1,30 @@
+/* A plain C model of the byte tables, without any device for speed: the same three calls as include/moesi.h under other names. */
+
+#ifndef PLAIN_MODEL_H
+#define PLAIN_MODEL_H
+
+#include <stddef.h>
+#include <stdint.h>
+
+uint64_t plain_fresh(uint64_t ports, uint64_t sets, uint64_t lines,
+                     const uint8_t *memory, size_t memory_len,
+                     uint8_t *tags, size_t tags_len,
+                     uint8_t *states, size_t states_len,
+                     uint8_t *data, size_t data_len);
+
+uint64_t plain_step(uint64_t ports, uint64_t sets, uint64_t lines,
+                    uint64_t word, uint64_t operand,
+                    uint8_t *memory, size_t memory_len,
+                    uint8_t *tags, size_t tags_len,
+                    uint8_t *states, size_t states_len,
+                    uint8_t *data, size_t data_len,
+                    uint8_t *answer, size_t answer_len);
+
+uint64_t plain_audit(uint64_t ports, uint64_t sets, uint64_t lines,
+                     const uint8_t *memory, size_t memory_len,
+                     const uint8_t *tags, size_t tags_len,
+                     const uint8_t *states, size_t states_len,
+                     const uint8_t *data, size_t data_len,
+                     uint8_t *verdict, size_t verdict_len);
+
+#endif
