@@ -8,15 +8,14 @@ use lib.Arith.{digits-lt, digits-div, digits-mod}
 use lib.Dec.{ltb}
 use native.Mathlib.Nat.{mod-lt, div-add-mod', div-lt-iff-lt-mul}
 use native.Mathlib.Decide.{ℕ-discrete}
+use native.Mathlib.Omega.{arith}
 use borrow.Author.Tests.{lt-ltb, ltb-true, not-true}
 use Rattle.protocol.specs.declared.state.State.{State}
 use Rattle.protocol.specs.declared.state.Byte.{Byte}
 use Rattle.protocol.specs.declared.state.Byte.the-variants.{Of, No}
-use Rattle.words.specs.Bools.{implies}
 use Rattle.protocol.specs.State.{isState, orInvalid, valid, owner, exclusive, isO, modeOf, sameMode}
-use Rattle.words.proofs.Bools.{Is, and-l, and-r, both, mp, not-both, not-is, by-bool}
-use Rattle.protocol.proofs.Finite.{at-state}
-use Rattle.protocol.proofs.States.{owner-valid, exclusive-valid, O-valid, same-mode, mode-itself}
+use Rattle.words.proofs.Bools.{Is, and-l, and-r, both, not-both, not-is, by-bool}
+use Rattle.protocol.proofs.States.{owner-valid, exclusive-valid, O-valid, mode-itself}
 use Rattle.model.specs.declared.shape.Shape.{Shape}
 use Rattle.model.specs.Shape.{entries, indexOf, tagOf, entryOf}
 use Rattle.model.specs.Tables.{Model, lentRefusal, stateAt, homeAt, sound, seen, wordAt, memoryAt, holds, owns}
@@ -26,14 +25,9 @@ use Rattle.model.proofs.Entries.{seen-tag, seen-here}
 use Rattle.model.proofs.Lent.{lent-facts, some-sets}
 use Rattle.model.proofs.Audited.{audit-facts, facts-audit}
 use Rattle.audit.specs.Entries.{entryPasses, indexPasses, columnsPass}
-use Rattle.audit.proofs.Fine.{or-mp, or-imp, numberBy, tagBy, byteBy, stateBy, wordBy, homeBy, Fine, passes-fine, passes-state, fine-passes, state-passes}
-
-O-owner : (x : State) → Is (isO x) → Is (owner x)
-O-owner x h = mp (at-state (λ x. implies (isO x) (owner x)) refl x) h
-
--- An owner that is not M is O.
-owner-O : (x : State) → Is (owner x) → Is (not (exclusive x)) → Is (isO x)
-owner-O x h k = mp (at-state (λ x. implies (owner x && not (exclusive x)) (isO x)) refl x) (both h k)
+use Rattle.audit.proofs.Fine.{or-mp, or-imp, numberBy, tagBy, byteBy, stateBy, wordBy, homeBy, Fits, fits-flip, Fine, passes-fine, passes-state, fine-passes, state-passes}
+use Rattle.audit.proofs.Classes.{together, together-modes, together-shared, together-oneO}
+use Rattle.audit.proofs.Pairs.{by-pairs}
 
 -- A byte that holds a line is a state.
 valid-state : (b : Byte) → Is (valid (orInvalid b)) → Is (isState b)
@@ -47,45 +41,51 @@ same-bool false false f g = refl
 
 -- From the tests to the facts.
 module _ (s : Shape) (t : Model) (pos : zero < s .sets) (test : (x p : ℕ) → x < s .sets → p < s .ports → Is (entryPasses s t x p)) where
-  -- Port p holds line a: the entry's tag is the line's, it is not I, and it is fine.
-  module _ (a p : ℕ) (hp : p < s .ports) (v : Is (holds s t a p)) where
-    sees : seen s t a p ≡ stateAt t (entryOf s a p)
-    sees = seen-here s t a p (seen-tag s t a p v)
+  module _ (a : ℕ) where
+    -- Port p holds line a: the entry's tag is the line's, it is not I, and it is fine.
+    sees : (p : ℕ) → Is (holds s t a p) → seen s t a p ≡ stateBy s t (indexOf s a) p
+    sees p v = seen-here s t a p (seen-tag s t a p v)
 
-    valid-here : Is (valid (stateBy s t (indexOf s a) p))
-    valid-here = subst (λ (z : State). Is (valid z)) sees v
+    valid-here : (p : ℕ) → Is (holds s t a p) → Is (valid (stateBy s t (indexOf s a) p))
+    valid-here p v = subst (λ (z : State). Is (valid z)) (sees p v) v
 
-    fine-here : Fine s t (indexOf s a) p
-    fine-here = passes-fine s t (indexOf s a) p hp (test (indexOf s a) p (mod-lt a pos) hp) valid-here
+    fine-here : (p : ℕ) → p < s .ports → Is (holds s t a p) → Fine s t (indexOf s a) p
+    fine-here p hp v = passes-fine s t (indexOf s a) p (valid-here p v) (test (indexOf s a) p (mod-lt a pos) hp)
 
-    home-here : homeBy s t (indexOf s a) p ≡ a
-    home-here = ap (λ (g : ℕ). g * s .sets + indexOf s a) (seen-tag s t a p v) ∙ div-add-mod' a (s .sets)
+    home-here : (p : ℕ) → Is (holds s t a p) → homeBy s t (indexOf s a) p ≡ a
+    home-here p v = ap (λ (g : ℕ). g * s .sets + indexOf s a) (seen-tag s t a p v) ∙ div-add-mod' a (s .sets)
+
+    -- The entries of two ports that hold it go together.
+    abbrev Both : ℕ → ℕ → Type 0
+    Both p q = Is (holds s t a p) → Is (holds s t a q) → Fits s t (indexOf s a) p q
+
+    two-here : (p q : ℕ) → p < s .ports → q < s .ports → q ≢ p → Both p q
+    two-here =
+        by-pairs Both (λ p q f vq vp. fits-flip (f vp vq)) (s .ports) (λ p q hp l vp vq.
+        fine-here p hp vp .pairs q l (seen-tag s t a q vq ∙ sym (seen-tag s t a p vp)) (valid-here q vq))
 
   module _ (a p q : ℕ) (hp : p < s .ports) (hq : q < s .ports) (vp : Is (holds s t a p)) (vq : Is (holds s t a q)) where
-    tags-equal : tagBy s t (indexOf s a) q ≡ tagBy s t (indexOf s a) p
-    tags-equal = seen-tag s t a q vq ∙ sym (seen-tag s t a p vp)
+    same-or : (P : ℕ → Type 0) → P p → (Fits s t (indexOf s a) p q → P q) → P q
+    same-or P z f = elim (ℕ-discrete q p) [ yes e ↦ subst P (sym e) z | no d ↦ f (two-here a p q hp hq d vp vq) ]
+
+    abbrev mine : State
+    mine = stateBy s t (indexOf s a) p
+
+    abbrev theirs : State
+    theirs = stateBy s t (indexOf s a) q
 
     words-here : wordAt s t a p ≡ wordAt s t a q
     unfolding wordAt
-    words-here = sym (fine-here a p hp vp .words q hq tags-equal (valid-here a q hq vq))
+    words-here = same-or (λ r. wordAt s t a p ≡ wordAt s t a r) refl (λ f. sym (f .words))
 
     modes-here : modeOf (seen s t a p) ≡ modeOf (seen s t a q)
-    modes-here =
-        rw (sees a p hp vp, sees a q hq vq)
-        (same-mode (modeOf (stateBy s t (indexOf s a) p)) (modeOf (stateBy s t (indexOf s a) q)) (fine-here a p hp vp .modes q hq tags-equal (valid-here a q hq vq)))
+    modes-here = same-or (λ r. modeOf (seen s t a p) ≡ modeOf (seen s t a r)) refl (λ f. rw (sees a p vp, sees a q vq) (together-modes mine theirs (f .states)))
 
     alone-here : Is (exclusive (seen s t a p)) → p ≡ q
-    alone-here e = elim (ℕ-discrete q p) [
-      | yes z ↦ sym z
-      | no d ↦ absurd (fine-here a p hp vp .alone q hq d tags-equal (valid-here a q hq vq) (subst (λ (z : State). Is (exclusive z)) (sees a p hp vp) e))
-    ]
+    alone-here e = same-or (λ r. p ≡ r) refl (λ f. absurd (together-shared mine theirs (f .states) (rw (sees a p vp) at e)))
 
     oneO-here : Is (isO (seen s t a p)) → Is (isO (seen s t a q)) → p ≡ q
-    oneO-here x y = elim (ℕ-discrete q p) [
-      | yes z ↦ sym z
-      | no d ↦ absurd (fine-here a p hp vp .owners q hq d tags-equal
-          (subst (λ (z : State). Is (owner z)) (sees a q hq vq) (O-owner (seen s t a q) y)) (subst (λ (z : State). Is (owner z)) (sees a p hp vp) (O-owner (seen s t a p) x)))
-    ]
+    oneO-here y z = same-or (λ r. p ≡ r) refl (λ f. absurd (together-oneO mine theirs (f .states) (rw (sees a p vp) at y) (rw (sees a q vq) at z)))
 
   clean-here : (a p : ℕ) → p < s .ports → Is (holds s t a p) → ((q : ℕ) → q < s .ports → owns s t a q ≡ false) → wordAt s t a p ≡ memoryAt t a
   unfolding wordAt
@@ -93,7 +93,7 @@ module _ (s : Shape) (t : Model) (pos : zero < s .sets) (test : (x p : ℕ) → 
       fine-here a p hp v .clean (λ q hq g o.
       let here : seen s t a q ≡ stateAt t (entryOf s a q) = seen-here s t a q (g ∙ seen-tag s t a p v) in
       false≢true (sym (u q hq) ∙ subst (λ (z : State). Is (owner z)) (sym here) o))
-      ∙ ap (memoryAt t) (home-here a p hp v)
+      ∙ ap (memoryAt t) (home-here a p v)
 
   -- Entry k, by its port and index.
   sound-by : (x p : ℕ) → x < s .sets → p < s .ports → Is (sound s t (numberBy s t x p))
@@ -102,7 +102,7 @@ module _ (s : Shape) (t : Model) (pos : zero < s .sets) (test : (x p : ℕ) → 
       by-bool (valid (stateBy s t x p))
       (λ v. both (valid-state (byteBy s t x p) v) (or-imp (valid (stateBy s t x p)) (ltb (homeAt s t (numberBy s t x p)) (s .lines)) (λ w.
       lt-ltb (homeAt s t (numberBy s t x p)) (s .lines)
-      (subst (λ (z : ℕ). tagBy s t x p * s .sets + z < s .lines) (sym (digits-mod p hx)) (passes-fine s t x p hp (test x p hx hp) v .home)))))
+      (subst (λ (z : ℕ). tagBy s t x p * s .sets + z < s .lines) (sym (digits-mod p hx)) (passes-fine s t x p v (test x p hx hp) .home)))))
       (λ v. both (passes-state s t x p (test x p hx hp) v) (or-imp (valid (stateBy s t x p)) (ltb (homeAt s t (numberBy s t x p)) (s .lines)) (λ w. absurd (not-both w v))))
 
   sound-at : (k : ℕ) → k < entries s → Is (sound s t k)
@@ -169,24 +169,21 @@ module _ (s : Shape) (t : Model) (facts : Coherent s t) (x p : ℕ) (hx : x < s 
       other : Is (holds s t line q)
       other = holds-is q g w
 
-      modes-fine : Is (sameMode (modeOf (stateBy s t x p)) (modeOf (stateBy s t x q)))
-      modes-fine =
-          rw (← seen-is p refl, ← seen-is q g, facts .modes line p q below hp hq own other) (mode-itself (modeOf (seen s t line q)))
+      -- Two ports' states, as they see the line: in one mode, neither alone, and not both O.
+      states-seen : q ≢ p → Is (together (seen s t line p) (seen s t line q))
+      states-seen d =
+          let one : Is (sameMode (modeOf (seen s t line p)) (modeOf (seen s t line q))) = rw (facts .modes line p q below hp hq own other) (mode-itself (modeOf (seen s t line q))) in
+          both (both (both one
+          (not-is (exclusive (seen s t line p)) (λ e. d (sym (facts .alone line p q below hp hq e other)))))
+          (not-is (exclusive (seen s t line q)) (λ e. d (facts .alone line q p below hq hp e own))))
+          (not-is (isO (seen s t line p) && isO (seen s t line q)) (λ e.
+          d (sym (facts .oneO line p q below hp hq (and-l (isO (seen s t line p)) (isO (seen s t line q)) e) (and-r (isO (seen s t line p)) (isO (seen s t line q)) e)))))
 
-      alone-fine : q ≢ p → Is (exclusive (stateBy s t x p)) → ⊥
-      alone-fine d e = d (sym (facts .alone line p q below hp hq (subst (λ (z : State). Is (exclusive z)) (sym (seen-is p refl)) e) other))
-
-      -- Of two owners one is M, which is alone, or both are O.
-      owners-fine : q ≢ p → Is (owner (stateBy s t x q)) → Is (owner (stateBy s t x p)) → ⊥
-      owners-fine d o e =
-          by-bool (exclusive (seen s t line p)) (λ z. d (sym (facts .alone line p q below hp hq z other))) (λ z.
-          by-bool (exclusive (seen s t line q)) (λ w. d (facts .alone line q p below hq hp w own)) (λ w.
-          d (sym (facts .oneO line p q below hp hq
-          (owner-O (seen s t line p) (subst (λ (z : State). Is (owner z)) (sym (seen-is p refl)) e) z)
-          (owner-O (seen s t line q) (subst (λ (z : State). Is (owner z)) (sym (seen-is q g)) o) w)))))
-
-      words-fine : wordBy s t x q ≡ wordBy s t x p
-      words-fine = sym (word-is q) ∙ facts .words line q p below hq hp other own ∙ word-is p
+      fits-fine : q ≢ p → Fits s t x p q
+      fits-fine d = record {
+        words = sym (word-is q) ∙ facts .words line q p below hq hp other own ∙ word-is p;
+        states = rw (← seen-is p refl, ← seen-is q g) (states-seen d);
+      }
 
     clean-fine : ((q : ℕ) → q < s .ports → tagBy s t x q ≡ tagBy s t x p → Is (owner (stateBy s t x q)) → ⊥) → wordBy s t x p ≡ memoryAt t line
     clean-fine u =
@@ -197,10 +194,7 @@ module _ (s : Shape) (t : Model) (facts : Coherent s t) (x p : ℕ) (hx : x < s 
     fine : Fine s t x p
     fine = record {
       home = below;
-      words = words-fine;
-      modes = modes-fine;
-      alone = λ q l d g w e. alone-fine q l g w d e;
-      owners = λ q l d g o e. owners-fine q l g (owner-valid (stateBy s t x q) o) d o e;
+      pairs = λ q l g w. fits-fine q (omega arith) g w (λ e. omega arith);
       clean = clean-fine;
     }
 

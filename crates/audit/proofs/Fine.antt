@@ -1,26 +1,20 @@
 -- What the test of one entry says, as plain facts. Assumes nothing.
 use Prim.Native.Nat.{ℕ, _+_, _*_, _<_}
-use mathlib.Core.Path.{_≡_, refl, sym, ap, subst, _∙_}
-use mathlib.Core.Logic.{_≢_}
+use mathlib.Core.Path.{_≡_, refl, sym, _∙_}
 use mathlib.Core.Bool.{Bool, true, false, cond, _&&_, _||_, not, false≢true}
 use lib.ListN.{getD}
 use lib.Dec.{eqb, leb}
-use native.Mathlib.Decide.{ℕ-discrete}
-use borrow.Author.Tests.{eq-eqb, ne-eqb, eqb-true, lt-leb, leb-false, not-true}
-use Rattle.protocol.specs.declared.state.Mode.{Mode}
-use Rattle.protocol.specs.declared.state.Mode.the-variants.{Through, Back}
+use borrow.Author.Tests.{eq-eqb, eqb-true, lt-leb, leb-false, not-true}
 use Rattle.protocol.specs.declared.state.State.{State}
 use Rattle.protocol.specs.declared.state.Byte.{Byte}
-use Rattle.protocol.specs.State.{stateOf, isState, valid, owner, exclusive, modeOf, sameMode}
-use Rattle.protocol.specs.Coded.{modeNumber}
-use Rattle.words.proofs.Bools.{Is, and-l, and-r, both, not-both, not-is}
-use Rattle.protocol.proofs.States.{owner-valid}
+use Rattle.protocol.specs.State.{stateOf, isState, valid, owner}
+use Rattle.words.proofs.Bools.{Is, and-l, and-r, both, or-l, or-r, by-bool, not-both, not-is}
 use Rattle.model.specs.declared.shape.Shape.{Shape}
-use Rattle.model.specs.Below.{allBelow, anyBelow}
 use Rattle.model.specs.Tables.{Model, stateAt, memoryAt}
-use Rattle.model.proofs.Below.{all-below, below-all, any-below, none-below, below-none}
+use Rattle.model.proofs.Below.{all-below, below-all, none-below, below-none}
 use Rattle.audit.specs.declared.Held.{Held}
-use Rattle.audit.specs.Entries.{lookOf, heldAt, heldBy, holdsLine, ownsLine, agrees, holdersOf, goesWith, tablesOf, entryPasses}
+use Rattle.audit.specs.Entries.{classOf, isOwner, compatible, goesWith, heldAt, heldBy, pairPasses, belowPass, ownsAt, ownedAt, tablesOf, passesWith, entryPasses}
+use Rattle.audit.proofs.Classes.{class-valid, class-owner, class-state, class-compatible, together, together-flip}
 
 -- `||` as a condition.
 pub or-mp : (a b : Bool) → Is (not a || b) → Is a → Is b
@@ -31,80 +25,24 @@ pub or-imp : (a b : Bool) → (Is a → Is b) → Is (not a || b)
 or-imp true b f = f refl
 or-imp false b f = refl
 
-or-else : (a b : Bool) → Is (a || b) → Is (not a) → Is b
-or-else true b h k = absurd (false≢true k)
-or-else false b h k = h
+or-first : (a b : Bool) → Is (a || b) → Is (not b) → Is a
+or-first true b h k = refl
+or-first false b h k = absurd (not-both h k)
 
-nor-l : (a b : Bool) → Is (not (a || b)) → Is (not a)
-nor-l true b h = h
-nor-l false b h = refl
+-- A test with two exits before it.
+held-near : (v far b st : Bool) → Is (cond v (cond far false b) st) → Is v → far ≡ false
+held-near true true b st h k = sym h
+held-near true false b st h k = refl
+held-near false far b st h k = absurd (false≢true k)
 
-nor-r : (a b : Bool) → Is (not (a || b)) → Is (not b)
-nor-r true b h = absurd (false≢true h)
-nor-r false b h = h
+held-test : (v far b st : Bool) → Is (cond v (cond far false b) st) → Is v → Is b
+held-test true true b st h k = absurd (false≢true h)
+held-test true false b st h k = h
+held-test false far b st h k = absurd (false≢true k)
 
-or-other : (a b : Bool) → (Is (not a) → Is b) → Is (a || b)
-or-other true b f = refl
-or-other false b f = f refl
-
--- The test of an entry, by its parts.
-record Parts (far agree exclusive shared owner dirty clean : Bool) : Type 0 where
-  pub near : far ≡ false
-  pub agreeing : Is agree
-  pub alone : Is exclusive → Is shared → ⊥
-  pub owning : Is owner → Is dirty → ⊥
-  pub cleanly : Is (not owner) → Is (not dirty) → Is clean
-
-module _ (v far agree exclusive shared owner dirty clean st : Bool) where
-  abbrev goes : Bool
-  goes = agree && (not (exclusive && shared) && not (owner && dirty)) && (owner || dirty || clean)
-
-  abbrev whole : Bool
-  whole = cond v (cond far false goes) st
-
-goes-parts : (agree exclusive shared owner dirty clean : Bool) → Is (goes true false agree exclusive shared owner dirty clean true)
-    → Parts false agree exclusive shared owner dirty clean
-goes-parts agree exclusive shared owner dirty clean h =
-    let a = agree && (not (exclusive && shared) && not (owner && dirty)) in
-    let b = not (exclusive && shared) && not (owner && dirty) in
-    record {
-      near = refl;
-      agreeing = and-l agree b (and-l a (owner || dirty || clean) h);
-      alone = λ x y. not-both (both x y) (and-l (not (exclusive && shared)) (not (owner && dirty)) (and-r agree b (and-l a (owner || dirty || clean) h)));
-      owning = λ x y. not-both (both x y) (and-r (not (exclusive && shared)) (not (owner && dirty)) (and-r agree b (and-l a (owner || dirty || clean) h)));
-      cleanly = λ x y. or-else (owner || dirty) clean (and-r a (owner || dirty || clean) h) (rw (not-true owner x) y);
-    }
-
-parts-goes : (far agree exclusive shared owner dirty clean : Bool) → Parts far agree exclusive shared owner dirty clean
-    → Is (goes true far agree exclusive shared owner dirty clean true)
-parts-goes far agree exclusive shared owner dirty clean w =
-    both (both (w .agreeing)
-    (both (not-is (exclusive && shared) (λ z. w .alone (and-l exclusive shared z) (and-r exclusive shared z))) (not-is (owner && dirty) (λ z. w .owning (and-l owner dirty z) (and-r owner dirty z)))))
-    (or-other (owner || dirty) clean (λ z. w .cleanly (nor-l owner dirty z) (nor-r owner dirty z)))
-
-whole-parts : (v far agree exclusive shared owner dirty clean st : Bool) → Is (whole v far agree exclusive shared owner dirty clean st) → Is v
-    → Parts far agree exclusive shared owner dirty clean
-whole-parts true true agree exclusive shared owner dirty clean st h k = absurd (false≢true h)
-whole-parts true false agree exclusive shared owner dirty clean st h k = goes-parts agree exclusive shared owner dirty clean h
-whole-parts false far agree exclusive shared owner dirty clean st h k = absurd (false≢true k)
-
-parts-whole : (v far agree exclusive shared owner dirty clean st : Bool) → Is v → Parts far agree exclusive shared owner dirty clean
-    → Is (whole v far agree exclusive shared owner dirty clean st)
-parts-whole v far agree exclusive shared owner dirty clean st k w = rw (k, w .near) (parts-goes far agree exclusive shared owner dirty clean w)
-
-whole-free : (v far agree exclusive shared owner dirty clean st : Bool) → Is (whole v far agree exclusive shared owner dirty clean st) → Is (not v) → Is st
-whole-free true far agree exclusive shared owner dirty clean st h k = absurd (false≢true k)
-whole-free false far agree exclusive shared owner dirty clean st h k = h
-
-free-whole : (v far agree exclusive shared owner dirty clean st : Bool) → Is (not v) → Is st → Is (whole v far agree exclusive shared owner dirty clean st)
-free-whole v far agree exclusive shared owner dirty clean st k h = rw (not-true v k) h
-
--- Equal modes, by their numbers.
-mode-numbers : (m n : Mode) → eqb (modeNumber n) (modeNumber m) ≡ sameMode m n
-mode-numbers Through Through = refl
-mode-numbers Through Back = refl
-mode-numbers Back Through = refl
-mode-numbers Back Back = refl
+free-test : (v c st : Bool) → Is (cond v c st) → Is (not v) → Is st
+free-test true c st h k = absurd (false≢true k)
+free-test false c st h k = h
 
 -- The entry of port q at index x.
 module _ (s : Shape) (t : Model) (x q : ℕ) where
@@ -126,13 +64,18 @@ module _ (s : Shape) (t : Model) (x q : ℕ) where
   abbrev pub homeBy : ℕ
   homeBy = tagBy * s .sets + x
 
+-- The entries of two ports at index x go together, as those of two holders of a line do.
+pub record Fits (s : Shape) (t : Model) (x p q : ℕ) : Type 0 where
+  pub words : wordBy s t x q ≡ wordBy s t x p
+  pub states : Is (together (stateBy s t x p) (stateBy s t x q))
+
+pub fits-flip : {s : Shape} {t : Model} {x p q : ℕ} → Fits s t x p q → Fits s t x q p
+fits-flip {s} {t} {x} {p} {q} f = record { words = sym (f .words); states = together-flip (stateBy s t x p) (stateBy s t x q) (f .states) }
+
 -- What the test says of port p's entry at index x, where it is not I.
 pub record Fine (s : Shape) (t : Model) (x p : ℕ) : Type 0 where
   pub home : homeBy s t x p < s .lines
-  pub words : (q : ℕ) → q < s .ports → tagBy s t x q ≡ tagBy s t x p → Is (valid (stateBy s t x q)) → wordBy s t x q ≡ wordBy s t x p
-  pub modes : (q : ℕ) → q < s .ports → tagBy s t x q ≡ tagBy s t x p → Is (valid (stateBy s t x q)) → Is (sameMode (modeOf (stateBy s t x p)) (modeOf (stateBy s t x q)))
-  pub alone : (q : ℕ) → q < s .ports → q ≢ p → tagBy s t x q ≡ tagBy s t x p → Is (valid (stateBy s t x q)) → Is (exclusive (stateBy s t x p)) → ⊥
-  pub owners : (q : ℕ) → q < s .ports → q ≢ p → tagBy s t x q ≡ tagBy s t x p → Is (owner (stateBy s t x q)) → Is (owner (stateBy s t x p)) → ⊥
+  pub pairs : (q : ℕ) → q < p → tagBy s t x q ≡ tagBy s t x p → Is (valid (stateBy s t x q)) → Fits s t x p q
   pub clean : ((q : ℕ) → q < s .ports → tagBy s t x q ≡ tagBy s t x p → Is (owner (stateBy s t x q)) → ⊥) → wordBy s t x p ≡ memoryAt t (homeBy s t x p)
 
 module _ (s : Shape) (t : Model) (x p : ℕ) where
@@ -140,126 +83,100 @@ module _ (s : Shape) (t : Model) (x p : ℕ) where
   entry q = heldBy (s .sets) (tablesOf t) x q
 
   abbrev pairBy : ℕ → Bool
-  pairBy q = not (holdsLine (entry p) (entry q)) || agrees (entry p) (entry q)
+  pairBy q = pairPasses (entry p) (entry q)
 
-  abbrev holdsBy : ℕ → Bool
-  holdsBy q = not (eqb q p) && holdsLine (entry p) (entry q)
+  abbrev sameTag : ℕ → Bool
+  sameTag q = eqb (tagBy s t x q) (tagBy s t x p)
+
+  abbrev classBy : ℕ → ℕ
+  classBy q = classOf (byteBy s t x q)
 
   abbrev ownsBy : ℕ → Bool
-  ownsBy q = not (eqb q p) && ownsLine (entry p) (entry q)
+  ownsBy q = ownsAt (t .tags) (t .states) (tagBy s t x p) (numberBy s t x q)
 
   abbrev far : Bool
   far = leb (s .lines) (homeBy s t x p)
 
-  abbrev agree : Bool
-  agree = allBelow pairBy (s .ports)
-
-  abbrev shared : Bool
-  shared = anyBelow holdsBy (s .ports)
-
-  abbrev dirty : Bool
-  dirty = anyBelow ownsBy (s .ports)
-
   abbrev clean : Bool
   clean = eqb (wordBy s t x p) (memoryAt t (homeBy s t x p))
 
-  abbrev parts : Type 0
-  parts = Parts far agree (exclusive (stateBy s t x p)) shared (owner (stateBy s t x p)) dirty clean
+  abbrev goes : Bool
+  goes = belowPass (s .sets) (tablesOf t) x p (entry p) && (clean || ownedAt s (t .tags) (t .states) x (tagBy s t x p))
 
-  -- Port q's entry is of the line, and holds it or owns it.
-  holds-q : (q : ℕ) → tagBy s t x q ≡ tagBy s t x p → Is (valid (stateBy s t x q)) → Is (holdsLine (entry p) (entry q))
-  unfolding heldAt lookOf
-  holds-q q g v = both (eq-eqb (tagBy s t x q) (tagBy s t x p) g) v
+  -- Port q's entry owns the line of port p's.
+  owns-q : (q : ℕ) → tagBy s t x q ≡ tagBy s t x p → Is (owner (stateBy s t x q)) → Is (ownsBy q)
+  unfolding ownsAt
+  owns-q q g o = both (eq-eqb (tagBy s t x q) (tagBy s t x p) g) (class-owner (byteBy s t x q) ∙ o)
 
-  q-tag : (q : ℕ) → Is (holdsLine (entry p) (entry q)) → tagBy s t x q ≡ tagBy s t x p
-  unfolding heldAt lookOf
-  q-tag q h = eqb-true (tagBy s t x q) (tagBy s t x p) (and-l (eqb (tagBy s t x q) (tagBy s t x p)) (valid (stateBy s t x q)) h)
-
-  q-valid : (q : ℕ) → Is (holdsLine (entry p) (entry q)) → Is (valid (stateBy s t x q))
-  unfolding heldAt lookOf
-  q-valid q h = and-r (eqb (tagBy s t x q) (tagBy s t x p)) (valid (stateBy s t x q)) h
-
-  owns-q : (q : ℕ) → tagBy s t x q ≡ tagBy s t x p → Is (owner (stateBy s t x q)) → Is (ownsLine (entry p) (entry q))
-  unfolding heldAt lookOf
-  owns-q q g o = both (holds-q q g (owner-valid (stateBy s t x q) o)) o
-
-  q-owner : (q : ℕ) → Is (ownsLine (entry p) (entry q)) → Is (owner (stateBy s t x q))
-  unfolding heldAt lookOf
-  q-owner q h = and-r (holdsLine (entry p) (entry q)) (owner (stateBy s t x q)) h
-
-  q-held : (q : ℕ) → Is (ownsLine (entry p) (entry q)) → Is (holdsLine (entry p) (entry q))
-  q-held q h = and-l (holdsLine (entry p) (entry q)) (entry q .look .owner) h
-
-  abbrev wordsEqual : ℕ → Bool
-  wordsEqual q = eqb (wordBy s t x q) (wordBy s t x p)
-
-  abbrev modesEqual : ℕ → Bool
-  modesEqual q = eqb (modeNumber (modeOf (stateBy s t x q))) (modeNumber (modeOf (stateBy s t x p)))
-
-  pair-in : Is agree → (q : ℕ) → q < s .ports → tagBy s t x q ≡ tagBy s t x p → Is (valid (stateBy s t x q)) → Is (wordsEqual q && modesEqual q)
-  unfolding heldAt lookOf
-  pair-in h q l g v = or-mp (holdsLine (entry p) (entry q)) (wordsEqual q && modesEqual q) (below-all pairBy (s .ports) h q l) (holds-q q g v)
-
-  other : (q : ℕ) → q ≢ p → Is (not (eqb q p))
-  other q d = ap not (ne-eqb q p d)
-
-  no-q : (u : Is (not (owner (stateBy s t x p)))) → Is (not dirty) → (q : ℕ) → q < s .ports → tagBy s t x q ≡ tagBy s t x p → Is (owner (stateBy s t x q)) → ⊥
-  no-q u w q l g o = elim (ℕ-discrete q p) [
-    | yes e ↦ not-both (subst (λ (z : ℕ). Is (owner (stateBy s t x z))) e o) u
-    | no d ↦ not-both (both (other q d) (owns-q q g o)) (below-none ownsBy (s .ports) w q l)
-  ]
-
-  parts-fine : p < s .ports → parts → Fine s t x p
-  parts-fine hp w = record {
-    home = leb-false (s .lines) (homeBy s t x p) (w .near);
-    words = λ q l g v. eqb-true (wordBy s t x q) (wordBy s t x p) (and-l (wordsEqual q) (modesEqual q) (pair-in (w .agreeing) q l g v));
-    modes = λ q l g v. sym (mode-numbers (modeOf (stateBy s t x p)) (modeOf (stateBy s t x q))) ∙ and-r (wordsEqual q) (modesEqual q) (pair-in (w .agreeing) q l g v);
-    alone = λ q l d g v e. w .alone e (any-below holdsBy (s .ports) q l (both (other q d) (holds-q q g v)));
-    owners = λ q l d g o e. w .owning e (any-below ownsBy (s .ports) q l (both (other q d) (owns-q q g o)));
-    clean = λ u. eqb-true (wordBy s t x p) (memoryAt t (homeBy s t x p)) (w .cleanly (not-is (owner (stateBy s t x p)) (λ o. u p hp refl o))
-        (none-below ownsBy (s .ports) (λ q l. not-is (ownsBy q) (λ h.
-        let o = and-r (not (eqb q p)) (ownsLine (entry p) (entry q)) h in u q l (q-tag q (q-held q o)) (q-owner q o)))));
-  }
-
-  pair-out : Fine s t x p → (q : ℕ) → q < s .ports → Is (pairBy q)
-  unfolding heldAt lookOf
-  pair-out f q l =
-      or-imp (holdsLine (entry p) (entry q)) (wordsEqual q && modesEqual q) (λ h.
-      both (eq-eqb (wordBy s t x q) (wordBy s t x p) (f .words q l (q-tag q h) (q-valid q h)))
-      (mode-numbers (modeOf (stateBy s t x p)) (modeOf (stateBy s t x q)) ∙ f .modes q l (q-tag q h) (q-valid q h)))
-
-  -- The other port of a test that says so.
-  apart : (q : ℕ) (b : Bool) → Is (not (eqb q p) && b) → q ≢ p
-  apart q b h e = not-both (eq-eqb q p e) (and-l (not (eqb q p)) b h)
-
-  fine-parts : Fine s t x p → parts
-  fine-parts f = record {
-    near = lt-leb (s .lines) (homeBy s t x p) (f .home);
-    agreeing = all-below pairBy (s .ports) (pair-out f);
-    alone = λ e h. not-both h (none-below holdsBy (s .ports) (λ q l. not-is (holdsBy q) (λ k.
-        let v = and-r (not (eqb q p)) (holdsLine (entry p) (entry q)) k in f .alone q l (apart q (holdsLine (entry p) (entry q)) k) (q-tag q v) (q-valid q v) e)));
-    owning = λ e h. not-both h (none-below ownsBy (s .ports) (λ q l. not-is (ownsBy q) (λ k.
-        let o = and-r (not (eqb q p)) (ownsLine (entry p) (entry q)) k in f .owners q l (apart q (ownsLine (entry p) (entry q)) k) (q-tag q (q-held q o)) (q-owner q o) e)));
-    cleanly = λ u w. eq-eqb (wordBy s t x p) (memoryAt t (homeBy s t x p)) (f .clean (no-q u w));
-  }
-
-  -- The test against the facts.
-  pub passes-fine : p < s .ports → Is (entryPasses s t x p) → Is (valid (stateBy s t x p)) → Fine s t x p
-  unfolding entryPasses holdersOf goesWith heldAt lookOf
-  passes-fine hp h v =
-      parts-fine hp (whole-parts (valid (stateBy s t x p)) far agree (exclusive (stateBy s t x p)) shared (owner (stateBy s t x p)) dirty clean (isState (byteBy s t x p)) h v)
+  q-owns : (q : ℕ) → Is (ownsBy q) → ((tagBy s t x q ≡ tagBy s t x p) × Is (owner (stateBy s t x q)))
+  unfolding ownsAt
+  q-owns q h =
+      (eqb-true (tagBy s t x q) (tagBy s t x p) (and-l (sameTag q) (isOwner (classBy q)) h), sym (class-owner (byteBy s t x q)) ∙ and-r (sameTag q) (isOwner (classBy q)) h)
 
   pub passes-state : Is (entryPasses s t x p) → Is (not (valid (stateBy s t x p))) → Is (isState (byteBy s t x p))
-  unfolding entryPasses holdersOf goesWith heldAt lookOf
+  unfolding entryPasses passesWith heldAt
   passes-state h v =
-      whole-free (valid (stateBy s t x p)) far agree (exclusive (stateBy s t x p)) shared (owner (stateBy s t x p)) dirty clean (isState (byteBy s t x p)) h v
-
-  pub fine-passes : Is (valid (stateBy s t x p)) → Fine s t x p → Is (entryPasses s t x p)
-  unfolding entryPasses holdersOf goesWith heldAt lookOf
-  fine-passes v f =
-      parts-whole (valid (stateBy s t x p)) far agree (exclusive (stateBy s t x p)) shared (owner (stateBy s t x p)) dirty clean (isState (byteBy s t x p)) v (fine-parts f)
+      sym (class-state (byteBy s t x p) v) ∙ free-test (leb 8 (classBy p)) (cond far false goes) (eqb (classBy p) 0) h (rw (class-valid (byteBy s t x p)) v)
 
   pub state-passes : Is (not (valid (stateBy s t x p))) → Is (isState (byteBy s t x p)) → Is (entryPasses s t x p)
-  unfolding entryPasses holdersOf goesWith heldAt lookOf
-  state-passes v h =
-      free-whole (valid (stateBy s t x p)) far agree (exclusive (stateBy s t x p)) shared (owner (stateBy s t x p)) dirty clean (isState (byteBy s t x p)) v h
+  unfolding entryPasses passesWith heldAt
+  state-passes v h = rw (class-valid (byteBy s t x p), not-true (valid (stateBy s t x p)) v) (class-state (byteBy s t x p) v ∙ h)
+
+  module _ (v : Is (valid (stateBy s t x p))) where
+    held : Is (leb 8 (classBy p))
+    held = class-valid (byteBy s t x p) ∙ v
+
+    abbrev wordsEqual : ℕ → Bool
+    wordsEqual q = eqb (wordBy s t x q) (wordBy s t x p)
+
+    abbrev fitBy : ℕ → Bool
+    fitBy q = compatible (classBy p) (classBy q)
+
+    pair-fits : (q : ℕ) → Is (pairBy q) → tagBy s t x q ≡ tagBy s t x p → Is (valid (stateBy s t x q)) → Fits s t x p q
+    unfolding pairPasses goesWith heldAt
+    pair-fits q h g w =
+        let tagged = or-mp (sameTag q) (goesWith (entry p) (entry q)) h (eq-eqb (tagBy s t x q) (tagBy s t x p) g) in
+        let k = or-mp (leb 8 (classBy q)) (wordsEqual q && fitBy q) tagged (class-valid (byteBy s t x q) ∙ w) in
+        record {
+          words = eqb-true (wordBy s t x q) (wordBy s t x p) (and-l (wordsEqual q) (fitBy q) k);
+          states = sym (class-compatible (byteBy s t x p) (byteBy s t x q) v w) ∙ and-r (wordsEqual q) (fitBy q) k;
+        }
+
+    fits-pair : (q : ℕ) → (tagBy s t x q ≡ tagBy s t x p → Is (valid (stateBy s t x q)) → Fits s t x p q) → Is (pairBy q)
+    unfolding pairPasses goesWith heldAt
+    fits-pair q f =
+        or-imp (sameTag q) (goesWith (entry p) (entry q)) (λ g. or-imp (leb 8 (classBy q)) (wordsEqual q && fitBy q) (λ h.
+        let w = sym (class-valid (byteBy s t x q)) ∙ h in
+        let k = f (eqb-true (tagBy s t x q) (tagBy s t x p) g) w in
+        both (eq-eqb (wordBy s t x q) (wordBy s t x p) (k .words)) (class-compatible (byteBy s t x p) (byteBy s t x q) v w ∙ k .states)))
+
+    abbrev owned : Bool
+    owned = ownedAt s (t .tags) (t .states) x (tagBy s t x p)
+
+    -- The test against the facts.
+    goes-fine : far ≡ false → Is goes → Fine s t x p
+    unfolding belowPass ownedAt
+    goes-fine n h =
+        let pairs = and-l (belowPass (s .sets) (tablesOf t) x p (entry p)) (clean || owned) h in
+        record {
+          home = leb-false (s .lines) (homeBy s t x p) n;
+          pairs = λ q l g w. pair-fits q (below-all pairBy p pairs q l) g w;
+          clean = λ u. eqb-true (wordBy s t x p) (memoryAt t (homeBy s t x p))
+              (or-first clean owned (and-r (belowPass (s .sets) (tablesOf t) x p (entry p)) (clean || owned) h)
+              (none-below ownsBy (s .ports) (λ q l. not-is (ownsBy q) (λ o. u q l (q-owns q o .0) (q-owns q o .1)))));
+        }
+
+    pub passes-fine : Is (entryPasses s t x p) → Fine s t x p
+    unfolding entryPasses passesWith heldAt
+    passes-fine h = goes-fine (held-near (leb 8 (classBy p)) far goes (eqb (classBy p) 0) h held) (held-test (leb 8 (classBy p)) far goes (eqb (classBy p) 0) h held)
+
+    fine-goes : Fine s t x p → Is goes
+    unfolding belowPass ownedAt
+    fine-goes f =
+        both (all-below pairBy p (λ q l. fits-pair q (f .pairs q l)))
+        (by-bool owned (λ o. or-r clean o) (λ n. or-l owned (eq-eqb (wordBy s t x p) (memoryAt t (homeBy s t x p))
+        (f .clean (λ q l g o. not-both (owns-q q g o) (below-none ownsBy (s .ports) n q l))))))
+
+    pub fine-passes : Fine s t x p → Is (entryPasses s t x p)
+    unfolding entryPasses passesWith heldAt
+    fine-passes f = rw (held, lt-leb (s .lines) (homeBy s t x p) (f .home)) (fine-goes f)

@@ -1,7 +1,7 @@
 -- Laws of the audit's tests that several proofs cite.
 pub mod Classes
 pub mod Places
-pub mod Holding
+pub mod Pairs
 pub mod Passing
 pub mod Tested
 pub mod Fine

@@ -1,4 +1,4 @@
--- A loop that ends at the first number that fails a test. Assumes nothing.
+-- Loops that end at the first number that fails a test, or passes it. Assumes nothing.
 use Prim.Native.Nat.{ℕ, _+_, _<_, _≤_}
 use mathlib.Core.Path.{_≡_, refl, ap, sym, _∙_}
 use mathlib.Core.Bool.{Bool, true, false, not}
@@ -6,8 +6,8 @@ use native.Mathlib.Omega.{arith}
 use native.Mathlib.Numerals.{add-one}
 use borrow.Author.Tests.{not-true, not-false}
 use Rattle.words.proofs.Bools.{Is, both, contra}
-use Rattle.model.specs.Below.{allBelow}
-use Rattle.model.proofs.Below.{below-all}
+use Rattle.model.specs.Below.{allBelow, anyBelow}
+use Rattle.model.proofs.Below.{below-all, any-below, none-below}
 
 -- The first p of n numbers pass.
 pub record Passing (f : ℕ → Bool) (n p : ℕ) : Type 0 where
@@ -28,3 +28,20 @@ module _ (f : ℕ → Bool) {n p : ℕ} (v : Passing f n p) where
 
   pub passing-done : n ≤ p → true ≡ allBelow f n
   passing-done h = let z : p ≡ n = omega (arith, v .below) in sym (v .passed) ∙ ap (allBelow f) z
+
+-- None of the first p of n numbers passes.
+pub record Seeking (f : ℕ → Bool) (n p : ℕ) : Type 0 where
+  pub failing : Passing (λ q. not (f q)) n p
+
+pub seeking-none : (f : ℕ → Bool) (n : ℕ) → Seeking f n 0
+seeking-none f n = record { failing = passing-none (λ q. not (f q)) n }
+
+module _ (f : ℕ → Bool) {n p : ℕ} (v : Seeking f n p) where
+  pub seeking-found : {b : Bool} → p < n → b ≡ f p → b ≡ true → true ≡ anyBelow f n
+  seeking-found h e u = sym (any-below f n p h (sym e ∙ u))
+
+  pub seeking-more : {b : Bool} → p < n → b ≡ f p → b ≡ false → Seeking f n (p + 1)
+  seeking-more h e u = record { failing = passing-more (λ q. not (f q)) (v .failing) h (ap not e) (ap (λ (z : Bool). not (not z)) u) }
+
+  pub seeking-done : n ≤ p → false ≡ anyBelow f n
+  seeking-done h = sym (not-true (anyBelow f n) (none-below f n (below-all (λ q. not (f q)) n (sym (passing-done (λ q. not (f q)) (v .failing) h)))))

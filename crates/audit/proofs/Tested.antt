@@ -1,31 +1,48 @@
--- The test of one entry, by its three ways. Assumes nothing.
+-- The tests of two entries and of one, by their ways out. Assumes nothing.
 use Prim.Native.Nat.{ℕ, _+_, _*_, _<_, _≤_}
-use mathlib.Core.Path.{_≡_, _∙_}
-use mathlib.Core.Bool.{Bool, true, false, cond, not}
-use lib.Dec.{eqb, leb}
-use borrow.Author.Tests.{not-true, not-false, le-leb, lt-leb}
+use mathlib.Core.Path.{_≡_, ap, _∙_}
+use mathlib.Core.Logic.{_≢_}
+use mathlib.Core.Bool.{Bool, true, false, not}
+use lib.ListN.{getD}
+use lib.Dec.{eqb}
+use borrow.Author.Tests.{not-true, not-false, le-leb, lt-leb, eq-eqb, ne-eqb}
+use Rattle.ports.specs.Line.{Tables}
 use Rattle.model.specs.declared.shape.Shape.{Shape}
 use Rattle.model.specs.Tables.{Model, memoryAt}
 use Rattle.audit.specs.declared.Held.{Held}
-use Rattle.audit.specs.declared.Holders.{Holders}
-use Rattle.audit.specs.Entries.{heldBy, holdersOf, goesWith, tablesOf, entryPasses}
+use Rattle.audit.specs.Entries.{heldAt, heldBy, goesWith, pairPasses, belowPass, ownedAt, tablesOf, passesWith, entryPasses}
 
-kept : (v far z st : Bool) → v ≡ true → far ≡ false → z ≡ cond v (cond far false z) st
-kept v far z st h k = rw (h, k)
+-- Another port's entry has another tag, or goes with e.
+module _ (e : Held) (t : Tables) (k : ℕ) where
+  pub pair-away : getD (t .tags) k 0 ≢ e .tag → true ≡ pairPasses e (heldAt t k)
+  unfolding pairPasses heldAt
+  pair-away d = rw (ne-eqb (getD (t .tags) k 0) (e .tag) d)
 
+  pub pair-here : getD (t .tags) k 0 ≡ e .tag → {f : Held} → f ≡ heldAt t k → {b : Bool} → b ≡ goesWith e f → b ≡ pairPasses e (heldAt t k)
+  unfolding pairPasses heldAt
+  pair-here g i c = rw (eq-eqb (getD (t .tags) k 0) (e .tag) g) (c ∙ ap (goesWith e) i)
+
+-- One entry: it is I or no state; its home line isn't there; a lower port's entry doesn't go with it; memory has its word; or an owner does.
 module _ (s : Shape) (t : Model) (x p : ℕ) {e : Held} (g : e ≡ heldBy (s .sets) (tablesOf t) x p) where
-  pub tested-free : not (e .look .valid) ≡ true → e .look .state ≡ entryPasses s t x p
-  unfolding entryPasses
-  tested-free v = rw (← g, not-true (e .look .valid) v)
+  pub tested-free : e .class < 8 → eqb (e .class) 0 ≡ entryPasses s t x p
+  unfolding entryPasses passesWith
+  tested-free l = rw (← g, lt-leb 8 (e .class) l)
 
-  module _ (v : not (e .look .valid) ≡ false) {home : ℕ} (a : home ≡ e .tag * s .sets + x) where
+  module _ (v : 8 ≤ e .class) {home : ℕ} (a : home ≡ e .tag * s .sets + x) where
     pub tested-far : s .lines ≤ home → false ≡ entryPasses s t x p
-    unfolding entryPasses
-    tested-far l = rw (← g, not-false (e .look .valid) v, ← a, le-leb (s .lines) home l)
+    unfolding entryPasses passesWith
+    tested-far l = rw (← g, le-leb 8 (e .class) v, ← a, le-leb (s .lines) home l)
 
-    pub tested-held : home < s .lines → {h : Holders} → h ≡ holdersOf (s .sets) (tablesOf t) x p e (s .ports)
-        → {b : Bool} → b ≡ goesWith (e .look) h (eqb (e .word) (memoryAt t home)) → b ≡ entryPasses s t x p
-    unfolding entryPasses
-    tested-held l {h} b c =
-        rw (← g, ← a, ← b) (c
-        ∙ kept (e .look .valid) (leb (s .lines) home) (goesWith (e .look) h (eqb (e .word) (memoryAt t home))) (e .look .state) (not-false (e .look .valid) v) (lt-leb (s .lines) home l))
+    module _ (l : home < s .lines) {b : Bool} (c : b ≡ belowPass (s .sets) (tablesOf t) x p e) where
+      pub tested-apart : not b ≡ true → false ≡ entryPasses s t x p
+      unfolding entryPasses passesWith
+      tested-apart n = rw (← g, le-leb 8 (e .class) v, ← a, lt-leb (s .lines) home l, ← c, not-true b n)
+
+      module _ (n : not b ≡ false) where
+        pub tested-clean : e .word ≡ memoryAt t home → true ≡ entryPasses s t x p
+        unfolding entryPasses passesWith
+        tested-clean w = rw (← g, le-leb 8 (e .class) v, ← a, lt-leb (s .lines) home l, ← c, not-false b n, eq-eqb (e .word) (memoryAt t home) w)
+
+        pub tested-owned : e .word ≢ memoryAt t home → {o : Bool} → o ≡ ownedAt s (t .tags) (t .states) x (e .tag) → o ≡ entryPasses s t x p
+        unfolding entryPasses passesWith
+        tested-owned w d = rw (← g, le-leb 8 (e .class) v, ← a, lt-leb (s .lines) home l, ← c, not-false b n, ne-eqb (e .word) (memoryAt t home) w) d

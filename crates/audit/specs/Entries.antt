@@ -1,23 +1,23 @@
--- The tests of one entry, and of all, as the code makes them.
-use Prim.Native.Nat.{ℕ, _+_, _*_, _<_}
+-- The tests of two entries, of one, and of all, as the code makes them. What two entries ask of each other goes both ways, so it is asked
+-- once, of the higher port's entry.
+use Prim.Native.Nat.{ℕ, _+_, _*_, _/_, _%_, _<_}
 use mathlib.Core.Path.{_≡_}
 use mathlib.Core.Bool.{Bool, true, false, cond, _&&_, _||_, not}
+use mathlib.Core.List.{List}
 use lib.ListN.{getD, length}
 use lib.Dec.{eqb, leb}
 use Rattle.protocol.specs.declared.state.Mode.the-variants.{Through, Back}
 use Rattle.protocol.specs.declared.state.State.{State}
 use Rattle.protocol.specs.declared.state.State.the-variants.{I, S, E, O, M}
 use Rattle.protocol.specs.declared.state.Byte.{Byte}
-use Rattle.protocol.specs.Coded.{modeNumber}
-use Rattle.protocol.specs.State.{stateOf, isState, orInvalid, valid, owner, exclusive, modeOf}
+use Rattle.protocol.specs.declared.state.Byte.the-variants.{Of, No}
+use Rattle.protocol.specs.State.{stateOf}
 use Rattle.ports.specs.Line.{Tables, tables}
 use Rattle.model.specs.declared.shape.Shape.{Shape}
 use Rattle.model.specs.Shape.{inRange, entries}
 use Rattle.model.specs.Below.{allBelow, anyBelow}
 use Rattle.model.specs.Tables.{Model, memoryAt}
-use Rattle.audit.specs.declared.Look.{Look}
 use Rattle.audit.specs.declared.Held.{Held}
-use Rattle.audit.specs.declared.Holders.{Holders}
 
 -- The tables have the shape's size, and x is an index.
 pub record Sized (s : Shape) (t : Tables) (x : ℕ) : Type 0 where
@@ -34,7 +34,8 @@ pub record Ready (s : Shape) (t : Model) : Type 0 where
   pub states : length (t .states) ≡ entries s
   pub words : length (t .words) ≡ entries s
 
--- The class of a state, as a number: 0 for I; else 8, and 1 more for write back, 2 more for E or M, 4 more for O or M.
+-- The class of a state, as a number: 0 for I; else 8, and 1 more for write back, 2 more for E or M, 4 more for O or M. A byte that is no
+-- state has class 1.
 abbrev pub classNumber : State → ℕ
 classNumber I = 0
 classNumber (S Through) = 8
@@ -44,70 +45,63 @@ classNumber (E Back) = 11
 classNumber O = 13
 classNumber M = 15
 
-unfoldable pub lookOf : Byte → Look
-lookOf b = record {
-  state = isState b;
-  valid = valid (orInvalid b);
-  owner = owner (orInvalid b);
-  exclusive = exclusive (orInvalid b);
-  mode = modeNumber (modeOf (orInvalid b));
-}
+abbrev pub classOf : Byte → ℕ
+classOf (Of s) = classNumber s
+classOf No = 1
 
+-- What a class says: E or M; O or M.
+abbrev pub isExclusive : ℕ → Bool
+isExclusive n = eqb (n / 2 % 2) 1
+
+abbrev pub isOwner : ℕ → Bool
+isOwner n = eqb (n / 4 % 2) 1
+
+-- Entry k, and the entry of port q at index x.
 unfoldable pub heldAt : Tables → ℕ → Held
-heldAt t k = record { tag = getD (t .tags) k 0; word = getD (t .words) k 0; look = lookOf (stateOf (getD (t .states) k 0)) }
+heldAt t k = record { tag = getD (t .tags) k 0; class = classOf (stateOf (getD (t .states) k 0)); word = getD (t .words) k 0 }
 
--- Entry f is of the line of entry e, and holds it.
-abbrev pub holdsLine : Held → Held → Bool
-holdsLine e f = eqb (f .tag) (e .tag) && f .look .valid
-
-abbrev pub ownsLine : Held → Held → Bool
-ownsLine e f = holdsLine e f && f .look .owner
-
--- Two holders of one line have its word, in one mode.
-abbrev pub agrees : Held → Held → Bool
-agrees e f = eqb (f .word) (e .word) && eqb (f .look .mode) (e .look .mode)
-
--- One holder more, and one port more.
-unfoldable pub noted : Holders → Held → Held → Bool → Holders
-noted h e f other = record { agree = h .agree && agrees e f; shared = h .shared || other; dirty = h .dirty || other && f .look .owner }
-
-unfoldable pub asked : Holders → Held → Held → Bool → Holders
-asked h e f other = record {
-  agree = h .agree && (not (holdsLine e f) || agrees e f);
-  shared = h .shared || other && holdsLine e f;
-  dirty = h .dirty || other && ownsLine e f;
-}
-
--- The entry of port q at index x.
 abbrev pub heldBy : ℕ → Tables → ℕ → ℕ → Held
 heldBy sets t x q = heldAt t (q * sets + x)
 
--- What the first n ports say of the line of port p's entry e at index x.
-unfoldable pub holdersOf : ℕ → Tables → ℕ → ℕ → Held → ℕ → Holders
-holdersOf sets t x p e n = record {
-  agree = allBelow (λ q. not (holdsLine e (heldBy sets t x q)) || agrees e (heldBy sets t x q)) n;
-  shared = anyBelow (λ q. not (eqb q p) && holdsLine e (heldBy sets t x q)) n;
-  dirty = anyBelow (λ q. not (eqb q p) && ownsLine e (heldBy sets t x q)) n;
-}
+-- The classes n and m of two holders of one line are compatible: of one mode, neither E or M, and not both O or M.
+unfoldable pub compatible : ℕ → ℕ → Bool
+compatible n m = eqb (m % 2) (n % 2) && not (isExclusive n || isExclusive m) && not (isOwner n && isOwner m)
+
+-- Entry e, which is not I, goes with the entry f of another port that has its tag: f is I (or no state, which fails at its own port); or
+-- they have one word and their classes are compatible.
+unfoldable pub goesWith : Held → Held → Bool
+goesWith e f = not (leb 8 (f .class)) || eqb (f .word) (e .word) && compatible (e .class) (f .class)
+
+-- The same of any entry f of another port at e's index: it may be of another line.
+unfoldable pub pairPasses : Held → Held → Bool
+pairPasses e f = not (eqb (f .tag) (e .tag)) || goesWith e f
+
+-- In tables of tags g and states h, entry k has the tag given and is O or M; and some port's entry at index x is so.
+unfoldable pub ownsAt : List ℕ → List ℕ → ℕ → ℕ → Bool
+ownsAt g h tag k = eqb (getD g k 0) tag && isOwner (classOf (stateOf (getD h k 0)))
+
+unfoldable pub ownedAt : Shape → List ℕ → List ℕ → ℕ → ℕ → Bool
+ownedAt s g h x tag = anyBelow (λ q. ownsAt g h tag (q * s .sets + x)) (s .ports)
+
+-- Entry e goes with the entry at index x of every port below p.
+unfoldable pub belowPass : ℕ → Tables → ℕ → ℕ → Held → Bool
+belowPass sets t x p e = allBelow (λ q. pairPasses e (heldBy sets t x q)) p
 
 abbrev pub tablesOf : Model → Tables
 tablesOf t = tables (t .tags) (t .states) (t .words)
 
--- An entry that says y goes with what the ports say of its line; clean says that memory has its word. The holders have its word and mode;
--- no other holds the line if it is E or M; no other owns the line if it does; some port owns it, or memory has the word.
-unfoldable pub goesWith : Look → Holders → Bool → Bool
-goesWith y h clean = h .agree && (not (y .exclusive && h .shared) && not (y .owner && h .dirty)) && (y .owner || h .dirty || clean)
+-- Port p's entry e at index x passes: it is I; or its home line is there, it goes with the entries of the ports below p, and memory has
+-- its word or some port owns the line.
+unfoldable pub passesWith : Shape → Model → ℕ → ℕ → Held → Bool
+passesWith s t x p e =
+    let home = e .tag * s .sets + x in
+    cond (leb 8 (e .class))
+    (cond (leb (s .lines) home) false
+    (belowPass (s .sets) (tablesOf t) x p e && (eqb (e .word) (memoryAt t home) || ownedAt s (t .tags) (t .states) x (e .tag))))
+    (eqb (e .class) 0)
 
--- An entry e with the home line given passes, where the ports say h of its line.
-abbrev pub passesWith : Shape → Model → Held → ℕ → Holders → Bool
-passesWith s t e home h =
-    cond (e .look .valid) (cond (leb (s .lines) home) false (goesWith (e .look) h (eqb (e .word) (memoryAt t home)))) (e .look .state)
-
--- Port p's entry at index x passes.
 unfoldable pub entryPasses : Shape → Model → ℕ → ℕ → Bool
-entryPasses s t x p =
-    let e = heldBy (s .sets) (tablesOf t) x p in
-    passesWith s t e (e .tag * s .sets + x) (holdersOf (s .sets) (tablesOf t) x p e (s .ports))
+entryPasses s t x p = passesWith s t x p (heldBy (s .sets) (tablesOf t) x p)
 
 -- Every port's entry at index x passes, and every entry of the tables.
 unfoldable pub indexPasses : Shape → Model → ℕ → Bool

@@ -1,17 +1,16 @@
 // The audit of main memory and the tables, entry by entry: its cost follows the entries, not the lines. What two holders of a line ask of
-// each other is asked at the turn of each.
+// each other is asked once, at the turn of the higher port.
 use model::shape::Shape;
-use ports::line;
+use protocol::rules;
 use protocol::state;
-use protocol::state::Byte;
-use protocol::state::Mode;
-use protocol::state::State;
 ghost use mathlib.Core.Path.{_≡_};
 ghost use Prim.Native.Nat.{_+_, _*_, _<_, _≤_};
-ghost use Rattle.protocol.specs.State.{stateOf, orInvalid};
+ghost use lib.ListN.{length};
+ghost use Rattle.protocol.specs.State.{stateOf};
 ghost use Rattle.ports.specs.Line.{tables, Within};
+ghost use Rattle.model.specs.Shape.{entries};
 ghost use Rattle.model.specs.Tables.{model};
-ghost use Rattle.audit.specs.Entries.{Sized, Ready, classNumber, lookOf, heldAt, noted, asked, holdersOf, goesWith, entryPasses, indexPasses, columnsPass};
+ghost use Rattle.audit.specs.Entries.{Sized, Ready, classOf, heldAt, compatible, goesWith, pairPasses, belowPass, ownsAt, ownedAt, entryPasses, indexPasses, columnsPass};
 ghost use Rattle.audit.specs.Verdict.{verdictOf};
 
 // The refusal, 0 if none, and the audit's yes or no.
@@ -20,120 +19,67 @@ pub struct Verdict {
     pub passes: bool,
 }
 
-// What a byte of the state table says: whether it is a state, isn't I, is O or M, and is E or M; and its mode, 1 for write back.
-pub struct Look {
-    pub state: bool,
-    pub valid: bool,
-    pub owner: bool,
-    pub exclusive: bool,
-    pub mode: u8,
-}
-
-// One entry of the tables, with what its byte says.
+// One entry of the tables, its state by its class.
 pub struct Held {
     pub tag: u32,
+    pub class: u8,
     pub word: u64,
-    pub look: Look,
 }
 
-// What the ports say of an entry's line: whether those that hold it have the entry's word and mode, whether another port than the entry's
-// holds it, and whether another owns it.
-pub struct Holders {
-    pub agree: bool,
-    pub shared: bool,
-    pub dirty: bool,
-}
-
-// What a state says, as a number: 0 for I and for a byte that is no state; else 8, and 1 more for write back, 2 more for E or M, 4 more
-// for O or M.
-fn class_of(y: Byte) -> u8
-    ensures { λ r. ⌜ r ≡ classNumber (orInvalid y) ⌝ }
+// The class of a byte's state, as a number: 1 for a byte that is no state; 0 for I; else 8, and 1 more for write back, 2 more for E or M,
+// 4 more for O or M. The states' classes are a row of nibbles.
+pub fn class_of(b: u8) -> u8
+    ensures { λ r. ⌜ r ≡ classOf (stateOf b) ⌝ }
 {
-    match y {
-        Byte::Of(s) => match s {
-            State::I => 0,
-            State::S(m) => match m {
-                Mode::Through => 8,
-                Mode::Back => 9,
-            },
-            State::E(m) => match m {
-                Mode::Through => 10,
-                Mode::Back => 11,
-            },
-            State::O => 13,
-            State::M => 15,
-        },
-        Byte::No => 0,
+    if !state::is_state(state::byte_state(b)) {
+        return 1;
     }
-}
-
-pub fn look_of(b: u8) -> Look
-    ensures { λ r. ⌜ r ≡ lookOf (stateOf b) ⌝ }
-{
-    let y = state::byte_state(b);
-    let n = class_of(y);
-    Look {
-        state: state::is_state(y),
-        valid: 8 <= n,
-        owner: n / 4 % 2 == 1,
-        exclusive: n / 2 % 2 == 1,
-        mode: n % 2,
-    }
+    rules::nibble(0xFDB9000000A80, b)
 }
 
 fn held_at(tags: &[u32], states: &[u8], data: &[u64], k: usize) -> Held
     requires { ⌜ Within (tables (now tags) (now states) (now «data»)) k ⌝ }
     ensures { λ r. ⌜ r ≡ heldAt (tables (now (tags .entry)) (now (states .entry)) (now («data» .entry))) k ⌝ }
 {
-    let e = line::entry_at(tags, states, data, k);
-    let look = look_of(e.byte);
     Held {
-        tag: e.tag,
-        word: e.word,
-        look,
+        tag: tags[k],
+        class: class_of(states[k]),
+        word: data[k],
     }
 }
 
-// What the ports say of entry e's line with one more, whose entry f holds it; other says that it isn't e's port.
-pub fn note(h: Holders, e: Held, f: Held, other: bool) -> Holders
-    ensures { λ r. ⌜ r ≡ noted h e f other ⌝ }
+// The classes n and m of two holders of one line are compatible: of one mode, neither E or M, and not both O or M.
+fn compatible(n: u8, m: u8) -> bool
+    ensures { λ r. ⌜ r ≡ compatible n m ⌝ }
 {
-    let x = e.look;
-    let y = f.look;
-    let agrees = (f.word == e.word) & (y.mode == x.mode);
-    Holders {
-        agree: h.agree & agrees,
-        shared: h.shared | other,
-        dirty: h.dirty | (other & y.owner),
-    }
+    let shared = !((n / 2 % 2 == 1) | (m / 2 % 2 == 1));
+    let owned_once = !((n / 4 % 2 == 1) & (m / 4 % 2 == 1));
+    (m % 2 == n % 2) & shared & owned_once
 }
 
-// The same with one more port, whose entry has the number k, where that entry may be of another line or I.
-fn ask_port(
-    tags: &[u32],
-    states: &[u8],
-    data: &[u64],
-    k: usize,
-    e: Held,
-    h: Holders,
-    other: bool,
-) -> Holders
+// Entry e, which isn't I, goes with the entry f of another port that has its tag: f is I (or no state, which fails at its own port); or
+// they have one word and their classes are compatible.
+pub fn goes_with(e: Held, f: Held) -> bool
+    ensures { λ r. ⌜ r ≡ goesWith e f ⌝ }
+{
+    let held = 8 <= f.class;
+    !held | ((f.word == e.word) & compatible(e.class, f.class))
+}
+
+// The same of any entry of another port at e's index, by its number k: it may be of another line.
+fn pair_passes(tags: &[u32], states: &[u8], data: &[u64], k: usize, e: Held) -> bool
     requires { ⌜ Within (tables (now tags) (now states) (now «data»)) k ⌝ }
-    ensures { λ r. ⌜ r ≡ asked h e (heldAt (tables (now (tags .entry)) (now (states .entry)) (now («data» .entry))) k) other ⌝ }
+    ensures { λ r. ⌜ r ≡ pairPasses e (heldAt (tables (now (tags .entry)) (now (states .entry)) (now («data» .entry))) k) ⌝ }
 {
     if tags[k] != e.tag {
-        return h;
+        return true;
     }
     let f = held_at(tags, states, data, k);
-    let y = f.look;
-    if !y.valid {
-        return h;
-    }
-    note(h, e, f, other)
+    goes_with(e, f)
 }
 
-// What the ports say of the line of port p's entry e at index x.
-fn ask_holders(
+// Entry e goes with the entry at index x of every port below p.
+fn below_pass(
     tags: &[u32],
     states: &[u8],
     data: &[u64],
@@ -141,24 +87,48 @@ fn ask_holders(
     x: usize,
     p: usize,
     e: Held,
-) -> Holders
+) -> bool
     requires { ⌜ Sized shape (tables (now tags) (now states) (now «data»)) x ⌝ }
-    ensures { λ r. ⌜ r ≡ holdersOf (shape .sets) (tables (now (tags .entry)) (now (states .entry)) (now («data» .entry))) x p e (shape .ports) ⌝ }
+    requires { ⌜ p < shape .ports ⌝ }
+    ensures { λ r. ⌜ r ≡ belowPass (shape .sets) (tables (now (tags .entry)) (now (states .entry)) (now («data» .entry))) x p e ⌝ }
+{
+    let sets = shape.sets;
+    let mut q = 0;
+    while q < p {
+        let k = q * sets + x;
+        if !pair_passes(tags, states, data, k, e) {
+            return false;
+        }
+        q += 1;
+    }
+    true
+}
+
+// Entry k has the tag given and is O or M.
+fn owns_at(tags: &[u32], states: &[u8], k: usize, tag: u32) -> bool
+    requires { ⌜ (k < length (now tags)) × (k < length (now states)) ⌝ }
+    ensures { λ r. ⌜ r ≡ ownsAt (now (tags .entry)) (now (states .entry)) tag k ⌝ }
+{
+    (tags[k] == tag) & (class_of(states[k]) / 4 % 2 == 1)
+}
+
+// Some port's entry at index x has the tag given and is O or M.
+fn owned_at(tags: &[u32], states: &[u8], shape: Shape, x: usize, tag: u32) -> bool
+    requires { ⌜ (length (now tags) ≡ entries shape) × (length (now states) ≡ entries shape) ⌝ }
+    requires { ⌜ x < shape .sets ⌝ }
+    ensures { λ r. ⌜ r ≡ ownedAt shape (now (tags .entry)) (now (states .entry)) x tag ⌝ }
 {
     let ports = shape.ports;
     let sets = shape.sets;
-    let mut h = Holders {
-        agree: true,
-        shared: false,
-        dirty: false,
-    };
-    let mut q = 0;
-    while q < ports {
-        let k = q * sets + x;
-        h = ask_port(tags, states, data, k, e, h, q != p);
-        q += 1;
+    let mut port = 0;
+    while port < ports {
+        let k = port * sets + x;
+        if owns_at(tags, states, k, tag) {
+            return true;
+        }
+        port += 1;
     }
-    h
+    false
 }
 
 // The home line of an entry with the tag given at index x.
@@ -170,17 +140,8 @@ pub fn home_of(tag: u32, sets: usize, x: usize) -> usize
     wide * sets + x
 }
 
-// An entry with the look y goes with what the ports say of its line: the holders have its word and mode, no other holds the line if it
-// is E or M, no other owns the line if it does, and some port owns it or memory has the word (clean).
-pub fn goes_with(y: Look, h: Holders, clean: bool) -> bool
-    ensures { λ r. ⌜ r ≡ goesWith y h clean ⌝ }
-{
-    let alone = !(y.exclusive & h.shared) & !(y.owner & h.dirty);
-    let kept = y.owner | h.dirty | clean;
-    h.agree & alone & kept
-}
-
-// Port p's entry at index x passes: it is I; or it has a home line, and goes with what the ports say of that line.
+// Port p's entry at index x passes: it is I; or its home line is there, it goes with the entries of the ports below p, and memory has its
+// word or some port owns the line.
 fn entry_passes(
     shape: Shape,
     memory: &[u64],
@@ -197,16 +158,20 @@ fn entry_passes(
     let sets = shape.sets;
     let k = p * sets + x;
     let e = held_at(tags, states, data, k);
-    let look = e.look;
-    if !look.valid {
-        return look.state;
+    if e.class < 8 {
+        return e.class == 0;
     }
     let home = home_of(e.tag, sets, x);
     if home >= shape.lines {
         return false;
     }
-    let h = ask_holders(tags, states, data, shape, x, p, e);
-    goes_with(look, h, e.word == memory[home])
+    if !below_pass(tags, states, data, shape, x, p, e) {
+        return false;
+    }
+    if e.word == memory[home] {
+        return true;
+    }
+    owned_at(tags, states, shape, x, e.tag)
 }
 
 // Every port's entry at index x passes.

@@ -1,14 +1,15 @@
 // The audit of main memory and the tables as little-endian bytes, entry by entry. The tests are those of `audit`, on values; what differs
 // is how an entry, and memory's word at its home line, are read.
 use audit::Held;
-use audit::Holders;
 use model::shape::Shape;
 use packed::entry;
 ghost use mathlib.Core.Path.{_≡_};
-ghost use Prim.Native.Nat.{_<_};
+ghost use Prim.Native.Nat.{_*_, _<_};
+ghost use lib.ListN.{length};
+ghost use Rattle.endian.specs.Little.{numbers};
 ghost use Rattle.model.specs.Shape.{entries};
 ghost use Rattle.model.specs.Audit.{tablesPass};
-ghost use Rattle.audit.specs.Entries.{heldAt, asked, holdersOf, entryPasses, indexPasses, columnsPass};
+ghost use Rattle.audit.specs.Entries.{heldAt, pairPasses, belowPass, ownsAt, ownedAt, entryPasses, indexPasses, columnsPass};
 ghost use Rattle.packed.specs.Fitting.{tablesIn, modelIn, Filled, Fitting};
 
 // Entry k of the tables.
@@ -17,42 +18,28 @@ fn held_at(shape: Shape, tags: &[u8], states: &[u8], words: &[u8], k: usize) -> 
     requires { ⌜ k < entries shape ⌝ }
     ensures { λ r. ⌜ r ≡ heldAt (tablesIn shape (now (tags .entry)) (now (states .entry)) (now (words .entry))) k ⌝ }
 {
-    let look = audit::look_of(states[k]);
     Held {
         tag: entry::tag_at(tags, k),
+        class: audit::class_of(states[k]),
         word: entry::word_at(words, k),
-        look,
     }
 }
 
-// What the ports say of entry e's line with one more, whose entry has the number k; other says that it isn't e's port.
-fn ask_port(
-    shape: Shape,
-    tags: &[u8],
-    states: &[u8],
-    words: &[u8],
-    k: usize,
-    e: Held,
-    h: Holders,
-    other: bool,
-) -> Holders
+// Entry e, which isn't I, goes with another port's entry at its index, by the number k: it is of another line, or goes with e.
+fn pair_passes(shape: Shape, tags: &[u8], states: &[u8], words: &[u8], k: usize, e: Held) -> bool
     requires { ⌜ Filled shape (now tags) (now states) (now words) ⌝ }
     requires { ⌜ k < entries shape ⌝ }
-    ensures { λ r. ⌜ r ≡ asked h e (heldAt (tablesIn shape (now (tags .entry)) (now (states .entry)) (now (words .entry))) k) other ⌝ }
+    ensures { λ r. ⌜ r ≡ pairPasses e (heldAt (tablesIn shape (now (tags .entry)) (now (states .entry)) (now (words .entry))) k) ⌝ }
 {
     if entry::tag_at(tags, k) != e.tag {
-        return h;
+        return true;
     }
     let f = held_at(shape, tags, states, words, k);
-    let y = f.look;
-    if !y.valid {
-        return h;
-    }
-    audit::note(h, e, f, other)
+    audit::goes_with(e, f)
 }
 
-// What the ports say of the line of port p's entry e at index x.
-fn ask_holders(
+// Entry e goes with the entry at index x of every port below p.
+fn below_pass(
     shape: Shape,
     tags: &[u8],
     states: &[u8],
@@ -60,28 +47,53 @@ fn ask_holders(
     x: usize,
     p: usize,
     e: Held,
-) -> Holders
+) -> bool
     requires { ⌜ Filled shape (now tags) (now states) (now words) ⌝ }
+    requires { ⌜ (x < shape .sets) × (p < shape .ports) ⌝ }
+    ensures { λ r. ⌜ r ≡ belowPass (shape .sets) (tablesIn shape (now (tags .entry)) (now (states .entry)) (now (words .entry))) x p e ⌝ }
+{
+    let sets = shape.sets;
+    let mut q = 0;
+    while q < p {
+        let k = q * sets + x;
+        if !pair_passes(shape, tags, states, words, k, e) {
+            return false;
+        }
+        q += 1;
+    }
+    true
+}
+
+// Entry k has the tag given and is O or M.
+fn owns_at(shape: Shape, tags: &[u8], states: &[u8], k: usize, tag: u32) -> bool
+    requires { ⌜ (length (now tags) ≡ 4 * entries shape) × (length (now states) ≡ entries shape) ⌝ }
+    requires { ⌜ k < entries shape ⌝ }
+    ensures { λ r. ⌜ r ≡ ownsAt (numbers 4 (entries shape) (now (tags .entry))) (now (states .entry)) tag k ⌝ }
+{
+    (entry::tag_at(tags, k) == tag) & (audit::class_of(states[k]) / 4 % 2 == 1)
+}
+
+// Some port's entry at index x has the tag given and is O or M.
+fn owned_at(shape: Shape, tags: &[u8], states: &[u8], x: usize, tag: u32) -> bool
+    requires { ⌜ (length (now tags) ≡ 4 * entries shape) × (length (now states) ≡ entries shape) ⌝ }
     requires { ⌜ x < shape .sets ⌝ }
-    ensures { λ r. ⌜ r ≡ holdersOf (shape .sets) (tablesIn shape (now (tags .entry)) (now (states .entry)) (now (words .entry))) x p e (shape .ports) ⌝ }
+    ensures { λ r. ⌜ r ≡ ownedAt shape (numbers 4 (entries shape) (now (tags .entry))) (now (states .entry)) x tag ⌝ }
 {
     let ports = shape.ports;
     let sets = shape.sets;
-    let mut h = Holders {
-        agree: true,
-        shared: false,
-        dirty: false,
-    };
-    let mut q = 0;
-    while q < ports {
-        let k = q * sets + x;
-        h = ask_port(shape, tags, states, words, k, e, h, q != p);
-        q += 1;
+    let mut port = 0;
+    while port < ports {
+        let k = port * sets + x;
+        if owns_at(shape, tags, states, k, tag) {
+            return true;
+        }
+        port += 1;
     }
-    h
+    false
 }
 
-// Port p's entry at index x passes: it is I; or it has a home line, and goes with what the ports and memory say of that line.
+// Port p's entry at index x passes: it is I; or its home line is there, it goes with the entries of the ports below p, and memory has its
+// word or some port owns the line.
 fn entry_passes(
     shape: Shape,
     memory: &[u8],
@@ -98,16 +110,20 @@ fn entry_passes(
     let sets = shape.sets;
     let k = p * sets + x;
     let e = held_at(shape, tags, states, words, k);
-    let look = e.look;
-    if !look.valid {
-        return look.state;
+    if e.class < 8 {
+        return e.class == 0;
     }
     let home = audit::home_of(e.tag, sets, x);
     if home >= shape.lines {
         return false;
     }
-    let h = ask_holders(shape, tags, states, words, x, p, e);
-    audit::goes_with(look, h, e.word == entry::word_at(memory, home))
+    if !below_pass(shape, tags, states, words, x, p, e) {
+        return false;
+    }
+    if e.word == entry::word_at(memory, home) {
+        return true;
+    }
+    owned_at(shape, tags, states, x, e.tag)
 }
 
 // Every port's entry at index x passes.

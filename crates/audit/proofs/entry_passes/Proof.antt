@@ -1,9 +1,8 @@
--- One look at the entry; then its home line, its holders and memory. Assumes nothing.
-use borrow.Author.Needs.{needs}
+-- One look at the entry; then its home line, the lower ports, memory, and the owners. Assumes nothing.
 use native.Mathlib.Omega.{arith}
 use Rattle.model.proofs.Bounds.{bounded}
 use Rattle.audit.proofs.Places.{in-tables, sized}
-use Rattle.audit.proofs.Tested.{tested-free, tested-far, tested-held}
+use Rattle.audit.proofs.Tested.{tested-free, tested-far, tested-apart, tested-clean, tested-owned}
 use Rattle.audit.proofs.entry_passes.Statement.{statement}
 use Rattle.audit.proofs.entry_passes.Tie as tie
 
@@ -17,25 +16,34 @@ held-at-requires : tie.Need-held-at-requires
 held-at-requires c κs = in-tables (sized (c .before .before .before .before .pre .0) (c .before .before .before .before .pre .1 .0)) (c .before .before .before .before .args .p) (c .before .before .before .before .pre .1 .1)
 
 returns : tie.Need-returns
-returns c = tested-free _ _ _ _ (c .before .before .before .held-at .ensures) (c .if1 .taken)
+returns c = tested-free _ _ _ _ (c .before .before .before .held-at .ensures) (c .before .if1 .taken)
 
 home-of-requires : tie.Need-home-of-requires
-home-of-requires c κs = (bounded (c .before .before .before .before .before .before .before .before .args .shape) (c .before .before .before .before .before .before .before .before .pre .0 .range) .sets-most, c .before .before .before .before .before .before .before .before .pre .1 .0)
+home-of-requires c κs = (bounded (c .before .before .before .before .before .before .before .args .shape) (c .before .before .before .before .before .before .before .pre .0 .range) .sets-most, c .before .before .before .before .before .before .before .pre .1 .0)
 
 returns-2 : tie.Need-returns-2
-returns-2 c = tested-far _ _ _ _ (c .before .before .before .before .before .before .held-at .ensures) (c .before .before .before .if1 .left) (c .before .before .home-of .ensures) (c .if2 .taken)
+returns-2 c = tested-far _ _ _ _ (c .before .before .before .before .before .held-at .ensures) (c .before .before .before .if1 .left) (c .before .before .home-of .ensures) (c .if2 .taken)
 
-ask-holders-requires : tie.Need-ask-holders-requires
-ask-holders-requires c κs = sized (c .before .before .before .before .before .before .before .before .before .before .before .pre .0) (c .before .before .before .before .before .before .before .before .before .before .before .pre .1 .0)
-
-mul-goes-with : tie.Need-mul-goes-with
-mul-goes-with c = omega (arith, c .before .if2 .left, bounded (c .before .before .before .before .before .before .before .before .before .before .before .before .args .shape) (c .before .before .before .before .before .before .before .before .before .before .before .before .pre .0 .range) .lines)
-
-shared-slice-read-goes-with : tie.Need-shared-slice-read-goes-with
-shared-slice-read-goes-with c = omega (arith, c .before .before .if2 .left, c .before .before .before .before .before .before .before .before .before .before .before .before .before .pre .0 .memory)
+below-pass-requires : tie.Need-below-pass-requires
+below-pass-requires c κs = (sized (c .before .before .before .before .before .before .before .before .before .before .pre .0) (c .before .before .before .before .before .before .before .before .before .before .pre .1 .0), c .before .before .before .before .before .before .before .before .before .before .pre .1 .1)
 
 returns-3 : tie.Need-returns-3
-returns-3 c = tested-held _ _ _ _ (c .before .before .before .before .before .before .before .before .before .before .held-at .ensures) (c .before .before .before .before .before .before .before .if1 .left) (c .before .before .before .before .before .before .home-of .ensures) (c .before .before .before .before .if2 .left) (c .before .before .before .ask-holders .ensures) (c .goes-with .ensures)
+returns-3 c = tested-apart _ _ _ _ (c .before .before .before .before .before .before .before .held-at .ensures) (c .before .before .before .before .before .if1 .left) (c .before .before .before .before .home-of .ensures) (c .before .before .if2 .left) (c .before .below-pass .ensures) (c .if3 .taken)
+
+mul-if4 : tie.Need-mul-if4
+mul-if4 c = omega (arith, c .before .before .if2 .left, bounded (c .before .before .before .before .before .before .before .before .before .before .before .before .args .shape) (c .before .before .before .before .before .before .before .before .before .before .before .before .pre .0 .range) .lines)
+
+shared-slice-read-if4 : tie.Need-shared-slice-read-if4
+shared-slice-read-if4 c = omega (arith, c .before .before .before .if2 .left, c .before .before .before .before .before .before .before .before .before .before .before .before .before .pre .0 .memory)
+
+returns-4 : tie.Need-returns-4
+returns-4 c = tested-clean _ _ _ _ (c .before .before .before .before .before .before .before .before .before .before .held-at .ensures) (c .before .before .before .before .before .before .before .before .if1 .left) (c .before .before .before .before .before .before .before .home-of .ensures) (c .before .before .before .before .before .if2 .left) (c .before .before .before .before .below-pass .ensures) (c .before .before .before .if3 .left) (c .if4 .taken)
+
+owned-at-requires : tie.Need-owned-at-requires
+owned-at-requires c κs = ((c .before .before .before .before .before .before .before .before .before .before .before .before .before .before .before .pre .0 .tags, c .before .before .before .before .before .before .before .before .before .before .before .before .before .before .before .pre .0 .states), c .before .before .before .before .before .before .before .before .before .before .before .before .before .before .before .pre .1 .0)
+
+returns-5 : tie.Need-returns-5
+returns-5 c = tested-owned _ _ _ _ (c .before .before .before .before .before .before .before .before .before .before .before .held-at .ensures) (c .before .before .before .before .before .before .before .before .before .if1 .left) (c .before .before .before .before .before .before .before .before .home-of .ensures) (c .before .before .before .before .before .before .if2 .left) (c .before .before .before .before .before .below-pass .ensures) (c .before .before .before .before .if3 .left) (c .before .if4 .left) (c .owned-at .ensures)
 
 pub entry-passes-spec : {M : Type 1} → statement M
 entry-passes-spec =
@@ -47,8 +55,10 @@ entry-passes-spec =
     returns
     home-of-requires
     returns-2
-    ask-holders-requires
-    mul-goes-with
-    shared-slice-read-goes-with
-    (λ c κs. search needs)
-    returns-3)
+    below-pass-requires
+    returns-3
+    mul-if4
+    shared-slice-read-if4
+    returns-4
+    owned-at-requires
+    returns-5)

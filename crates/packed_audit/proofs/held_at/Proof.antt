@@ -1,18 +1,18 @@
--- One read of each table, and one look at the byte. Assumes nothing.
+-- One read of each table, and the byte's class. Assumes nothing.
 use borrow.Author.Needs.{needs}
 use Rattle.packed_audit.proofs.Places.{held-is}
 use Rattle.packed_audit.proofs.held_at.Statement.{statement}
 use Rattle.packed_audit.proofs.held_at.Tie as tie
 
 returns : tie.Need-returns
-returns c = held-is (c .before .before .before .before .before .before .before .pre .0) (c .before .before .before .before .before .before .before .pre .1) (c .before .tag-at .ensures) (c .word-at .ensures) (c .before .before .look-of .ensures)
+returns c = held-is (c .before .before .before .before .before .before .before .pre .0) (c .before .before .before .before .before .before .before .pre .1) (c .before .before .before .tag-at .ensures) (c .before .class-of .ensures) (c .word-at .ensures)
 
 pub held-at-spec : {M : Type 1} → statement M
 held-at-spec =
     tie.close
     (tie.spec
-    (λ c. search needs)
     (λ c κs. search needs)
+    (λ c. search needs)
     (λ c κs. search needs)
     (λ c κs. search needs)
     returns)

@@ -1,0 +1,60 @@
+-- The loop goes on while the ports' entries go with e. Assumes nothing.
+use Prim.Native.Nat.{_-_}
+use native.Mathlib.Omega.{arith}
+use Rattle.ports.specs.Line.{tables}
+use Rattle.audit.specs.Entries.{heldBy, pairPasses, belowPass}
+use Rattle.audit.proofs.Places.{in-tables}
+use Rattle.audit.proofs.Passing.{Passing, passing-none, passing-fails, passing-more, passing-done}
+use Rattle.audit.proofs.below_pass.Statement.{statement}
+use Rattle.audit.proofs.below_pass.Tie as tie
+
+abbrev Inv-loop : tie.InvT-loop
+Inv-loop tags states «data» x p e sets q₀ q = Passing (λ q. pairPasses e (heldBy sets (tables tags states «data») x q)) p q
+
+abbrev μ-loop : tie.MeasureT-loop
+μ-loop tags states «data» x p e sets q₀ q = p - q
+
+loop-holds : tie.Need-loop-holds Inv-loop μ-loop
+loop-holds c = passing-none _ _
+
+mul-k : tie.Need-mul-k Inv-loop μ-loop
+mul-k c = omega (arith, in-tables (c .before .before .before .before .before .pre .0) (c .before .loop .q) (omega (arith, c .loop-test .taken, c .before .before .before .before .before .pre .1)) .in-words, c .before .before .before .before .before .good)
+
+add-k : tie.Need-add-k Inv-loop μ-loop
+add-k c = omega (arith, in-tables (c .before .before .before .before .before .pre .0) (c .before .loop .q) (omega (arith, c .loop-test .taken, c .before .before .before .before .before .pre .1)) .in-words, c .before .before .before .before .before .good)
+
+pair-passes-requires : tie.Need-pair-passes-requires Inv-loop μ-loop
+pair-passes-requires c κs = in-tables (c .before .before .before .before .before .pre .0) (c .before .loop .q) (omega (arith, c .loop-test .taken, c .before .before .before .before .before .pre .1))
+
+returns : tie.Need-returns Inv-loop μ-loop
+unfolding belowPass
+returns c = passing-fails _ (c .before .before .before .loop .inv) (c .before .before .loop-test .taken) (c .before .pair-passes .ensures) (c .if1 .taken)
+
+add-q : tie.Need-add-q Inv-loop μ-loop
+add-q c = omega (arith, c .before .before .loop-test .taken)
+
+loop-less : tie.Need-loop-less Inv-loop μ-loop
+loop-less c = omega (arith, c .before .before .loop-test .taken)
+
+loop-again : tie.Need-loop-again Inv-loop μ-loop
+loop-again c = passing-more _ (c .before .before .before .loop .inv) (c .before .before .loop-test .taken) (c .before .pair-passes .ensures) (c .if1 .left)
+
+returns-2 : tie.Need-returns-2 Inv-loop μ-loop
+unfolding belowPass
+returns-2 c = passing-done _ (c .before .loop .inv) (c .loop-test .left)
+
+pub below-pass-spec : {M : Type 1} → statement M
+below-pass-spec =
+    tie.close
+    (tie.spec
+    Inv-loop
+    μ-loop
+    loop-holds
+    mul-k
+    add-k
+    pair-passes-requires
+    returns
+    add-q
+    loop-less
+    loop-again
+    returns-2)

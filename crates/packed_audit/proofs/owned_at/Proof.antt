@@ -1,0 +1,61 @@
+-- The loop goes on while no port's entry owns the line. Assumes nothing.
+use Prim.Native.Nat.{_-_, _+_, _*_}
+use lib.Arith.{digits-lt}
+use native.Mathlib.Omega.{arith}
+use Rattle.audit.specs.Entries.{ownsAt, ownedAt}
+use Rattle.audit.proofs.Passing.{Seeking, seeking-none, seeking-found, seeking-more, seeking-done}
+use Rattle.endian.specs.Little.{numbers}
+use Rattle.model.specs.Shape.{entries}
+use Rattle.packed_audit.proofs.owned_at.Statement.{statement}
+use Rattle.packed_audit.proofs.owned_at.Tie as tie
+
+abbrev Inv-loop : tie.InvT-loop
+Inv-loop shape tags states x tag ports sets port₀ port = Seeking (λ q. ownsAt (numbers 4 (entries shape) tags) states tag (q * sets + x)) ports port
+
+abbrev μ-loop : tie.MeasureT-loop
+μ-loop shape tags states x tag ports sets port₀ port = ports - port
+
+loop-holds : tie.Need-loop-holds Inv-loop μ-loop
+loop-holds c = seeking-none _ _
+
+mul-k : tie.Need-mul-k Inv-loop μ-loop
+mul-k c = omega (arith, digits-lt (c .loop-test .taken) (c .before .before .before .before .pre .1), c .before .before .before .before .pre .0 .1)
+
+add-k : tie.Need-add-k Inv-loop μ-loop
+add-k c = omega (arith, digits-lt (c .loop-test .taken) (c .before .before .before .before .pre .1), c .before .before .before .before .pre .0 .1)
+
+owns-at-requires : tie.Need-owns-at-requires Inv-loop μ-loop
+owns-at-requires c κs = (c .before .before .before .before .pre .0, digits-lt (c .loop-test .taken) (c .before .before .before .before .pre .1))
+
+returns : tie.Need-returns Inv-loop μ-loop
+unfolding ownedAt
+returns c = seeking-found _ (c .before .before .before .loop .inv) (c .before .before .loop-test .taken) (c .before .owns-at .ensures) (c .if1 .taken)
+
+add-port : tie.Need-add-port Inv-loop μ-loop
+add-port c = omega (arith, c .before .before .loop-test .taken)
+
+loop-less : tie.Need-loop-less Inv-loop μ-loop
+loop-less c = omega (arith, c .before .before .loop-test .taken)
+
+loop-again : tie.Need-loop-again Inv-loop μ-loop
+loop-again c = seeking-more _ (c .before .before .before .loop .inv) (c .before .before .loop-test .taken) (c .before .owns-at .ensures) (c .if1 .left)
+
+returns-2 : tie.Need-returns-2 Inv-loop μ-loop
+unfolding ownedAt
+returns-2 c = seeking-done _ (c .before .loop .inv) (c .loop-test .left)
+
+pub owned-at-spec : {M : Type 1} → statement M
+owned-at-spec =
+    tie.close
+    (tie.spec
+    Inv-loop
+    μ-loop
+    loop-holds
+    mul-k
+    add-k
+    owns-at-requires
+    returns
+    add-port
+    loop-less
+    loop-again
+    returns-2)

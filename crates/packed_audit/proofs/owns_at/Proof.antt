@@ -1,0 +1,19 @@
+-- The entry's tag, and its class. Assumes nothing.
+use borrow.Author.Needs.{needs}
+use Rattle.audit.specs.Entries.{ownsAt}
+use Rattle.packed_audit.proofs.Places.{tag-is}
+use Rattle.packed_audit.proofs.owns_at.Statement.{statement}
+use Rattle.packed_audit.proofs.owns_at.Tie as tie
+
+returns : tie.Need-returns
+unfolding ownsAt
+returns c = rw (c .class-of .ensures, tag-is _ _ (c .before .before .before .before .before .pre .1) (c .before .before .tag-at .ensures))
+
+pub owns-at-spec : {M : Type 1} → statement M
+owns-at-spec =
+    tie.close
+    (tie.spec
+    (λ c κs. search needs)
+    (λ c. search needs)
+    (λ c κs. search needs)
+    returns)
