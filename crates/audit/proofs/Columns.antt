@@ -50,7 +50,7 @@ module _ (s : Shape) (t : Model) (pos : zero < s .sets) (test : (x p : ℕ) → 
     valid-here p v = subst (λ (z : State). Is (valid z)) (sees p v) v
 
     fine-here : (p : ℕ) → p < s .ports → Is (holds s t a p) → Fine s t (indexOf s a) p
-    fine-here p hp v = passes-fine s t (indexOf s a) p (valid-here p v) (test (indexOf s a) p (mod-lt a pos) hp)
+    fine-here p hp v = passes-fine s t (indexOf s a) p (valid-here p v) hp (test (indexOf s a) p (mod-lt a pos) hp)
 
     home-here : (p : ℕ) → Is (holds s t a p) → homeBy s t (indexOf s a) p ≡ a
     home-here p v = ap (λ (g : ℕ). g * s .sets + indexOf s a) (seen-tag s t a p v) ∙ div-add-mod' a (s .sets)
@@ -102,7 +102,7 @@ module _ (s : Shape) (t : Model) (pos : zero < s .sets) (test : (x p : ℕ) → 
       by-bool (valid (stateBy s t x p))
       (λ v. both (valid-state (byteBy s t x p) v) (or-imp (valid (stateBy s t x p)) (ltb (homeAt s t (numberBy s t x p)) (s .lines)) (λ w.
       lt-ltb (homeAt s t (numberBy s t x p)) (s .lines)
-      (subst (λ (z : ℕ). tagBy s t x p * s .sets + z < s .lines) (sym (digits-mod p hx)) (passes-fine s t x p v (test x p hx hp) .home)))))
+      (subst (λ (z : ℕ). tagBy s t x p * s .sets + z < s .lines) (sym (digits-mod p hx)) (passes-fine s t x p v hp (test x p hx hp) .home)))))
       (λ v. both (passes-state s t x p (test x p hx hp) v) (or-imp (valid (stateBy s t x p)) (ltb (homeAt s t (numberBy s t x p)) (s .lines)) (λ w. absurd (not-both w v))))
 
   sound-at : (k : ℕ) → k < entries s → Is (sound s t k)

@@ -101,7 +101,7 @@ module _ (s : Shape) (t : Model) (x p : ℕ) where
   clean = eqb (wordBy s t x p) (memoryAt t (homeBy s t x p))
 
   abbrev goes : Bool
-  goes = belowPass (s .sets) (tablesOf t) x p (entry p) && (clean || ownedAt s (t .tags) (t .states) x (tagBy s t x p))
+  goes = belowPass (s .sets) (tablesOf t) x p (entry p) && (clean || isOwner (classBy p) || ownedAt s (t .tags) (t .states) x (tagBy s t x p))
 
   -- Port q's entry owns the line of port p's.
   owns-q : (q : ℕ) → tagBy s t x q ≡ tagBy s t x p → Is (owner (stateBy s t x q)) → Is (ownsBy q)
@@ -154,28 +154,30 @@ module _ (s : Shape) (t : Model) (x p : ℕ) where
     owned = ownedAt s (t .tags) (t .states) x (tagBy s t x p)
 
     -- The test against the facts.
-    goes-fine : far ≡ false → Is goes → Fine s t x p
+    goes-fine : p < s .ports → far ≡ false → Is goes → Fine s t x p
     unfolding belowPass ownedAt
-    goes-fine n h =
-        let pairs = and-l (belowPass (s .sets) (tablesOf t) x p (entry p)) (clean || owned) h in
+    goes-fine hp n h =
+        let pairs = and-l (belowPass (s .sets) (tablesOf t) x p (entry p)) (clean || isOwner (classBy p) || owned) h in
+        let kept = and-r (belowPass (s .sets) (tablesOf t) x p (entry p)) (clean || isOwner (classBy p) || owned) h in
         record {
           home = leb-false (s .lines) (homeBy s t x p) n;
           pairs = λ q l g w. pair-fits q (below-all pairBy p pairs q l) g w;
           clean = λ u. eqb-true (wordBy s t x p) (memoryAt t (homeBy s t x p))
-              (or-first clean owned (and-r (belowPass (s .sets) (tablesOf t) x p (entry p)) (clean || owned) h)
-              (none-below ownsBy (s .ports) (λ q l. not-is (ownsBy q) (λ o. u q l (q-owns q o .0) (q-owns q o .1)))));
+              (or-first clean (isOwner (classBy p)) (or-first (clean || isOwner (classBy p)) owned kept
+              (none-below ownsBy (s .ports) (λ q l. not-is (ownsBy q) (λ o. u q l (q-owns q o .0) (q-owns q o .1)))))
+              (not-is (isOwner (classBy p)) (λ o. u p hp refl (sym (class-owner (byteBy s t x p)) ∙ o))));
         }
 
-    pub passes-fine : Is (entryPasses s t x p) → Fine s t x p
+    pub passes-fine : p < s .ports → Is (entryPasses s t x p) → Fine s t x p
     unfolding entryPasses passesWith heldAt
-    passes-fine h = goes-fine (held-near (leb 8 (classBy p)) far goes (eqb (classBy p) 0) h held) (held-test (leb 8 (classBy p)) far goes (eqb (classBy p) 0) h held)
+    passes-fine hp h = goes-fine hp (held-near (leb 8 (classBy p)) far goes (eqb (classBy p) 0) h held) (held-test (leb 8 (classBy p)) far goes (eqb (classBy p) 0) h held)
 
     fine-goes : Fine s t x p → Is goes
     unfolding belowPass ownedAt
     fine-goes f =
         both (all-below pairBy p (λ q l. fits-pair q (f .pairs q l)))
-        (by-bool owned (λ o. or-r clean o) (λ n. or-l owned (eq-eqb (wordBy s t x p) (memoryAt t (homeBy s t x p))
-        (f .clean (λ q l g o. not-both (owns-q q g o) (below-none ownsBy (s .ports) n q l))))))
+        (by-bool owned (λ o. or-r (clean || isOwner (classBy p)) o) (λ n. or-l owned (or-l (isOwner (classBy p)) (eq-eqb (wordBy s t x p) (memoryAt t (homeBy s t x p))
+        (f .clean (λ q l g o. not-both (owns-q q g o) (below-none ownsBy (s .ports) n q l)))))))
 
     pub fine-passes : Fine s t x p → Is (entryPasses s t x p)
     unfolding entryPasses passesWith heldAt

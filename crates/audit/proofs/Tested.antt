@@ -2,7 +2,7 @@
 use Prim.Native.Nat.{ℕ, _+_, _*_, _<_, _≤_}
 use mathlib.Core.Path.{_≡_, ap, _∙_}
 use mathlib.Core.Logic.{_≢_}
-use mathlib.Core.Bool.{Bool, true, false, not}
+use mathlib.Core.Bool.{Bool, true, false, _||_, not}
 use lib.ListN.{getD}
 use lib.Dec.{eqb}
 use borrow.Author.Tests.{not-true, not-false, le-leb, lt-leb, eq-eqb, ne-eqb}
@@ -10,7 +10,7 @@ use Rattle.ports.specs.Line.{Tables}
 use Rattle.model.specs.declared.shape.Shape.{Shape}
 use Rattle.model.specs.Tables.{Model, memoryAt}
 use Rattle.audit.specs.declared.Held.{Held}
-use Rattle.audit.specs.Entries.{heldAt, heldBy, goesWith, pairPasses, belowPass, ownedAt, tablesOf, passesWith, entryPasses}
+use Rattle.audit.specs.Entries.{heldAt, heldBy, goesWith, pairPasses, belowPass, ownedAt, isOwner, tablesOf, passesWith, entryPasses}
 
 -- Another port's entry has another tag, or goes with e.
 module _ (e : Held) (t : Tables) (k : ℕ) where
@@ -22,7 +22,8 @@ module _ (e : Held) (t : Tables) (k : ℕ) where
   unfolding pairPasses heldAt
   pair-here g i c = rw (eq-eqb (getD (t .tags) k 0) (e .tag) g) (c ∙ ap (goesWith e) i)
 
--- One entry: it is I or no state; its home line isn't there; a lower port's entry doesn't go with it; memory has its word; or an owner does.
+-- One entry: it is I or no state; its home line isn't there; a lower port's entry doesn't go with it; memory has its word or it is an
+-- owner; or there is no telling but from the other ports.
 module _ (s : Shape) (t : Model) (x p : ℕ) {e : Held} (g : e ≡ heldBy (s .sets) (tablesOf t) x p) where
   pub tested-free : e .class < 8 → eqb (e .class) 0 ≡ entryPasses s t x p
   unfolding entryPasses passesWith
@@ -38,11 +39,11 @@ module _ (s : Shape) (t : Model) (x p : ℕ) {e : Held} (g : e ≡ heldBy (s .se
       unfolding entryPasses passesWith
       tested-apart n = rw (← g, le-leb 8 (e .class) v, ← a, lt-leb (s .lines) home l, ← c, not-true b n)
 
-      module _ (n : not b ≡ false) where
-        pub tested-clean : e .word ≡ memoryAt t home → true ≡ entryPasses s t x p
+      module _ (n : not b ≡ false) {w : ℕ} (m : memoryAt t home ≡ w) {z : Bool} (o : z ≡ isOwner (e .class)) where
+        pub tested-kept : (eqb (e .word) w || z) ≡ true → true ≡ entryPasses s t x p
         unfolding entryPasses passesWith
-        tested-clean w = rw (← g, le-leb 8 (e .class) v, ← a, lt-leb (s .lines) home l, ← c, not-false b n, eq-eqb (e .word) (memoryAt t home) w)
+        tested-kept k = rw (← g, le-leb 8 (e .class) v, ← a, lt-leb (s .lines) home l, ← c, not-false b n, m, ← o, k)
 
-        pub tested-owned : e .word ≢ memoryAt t home → {o : Bool} → o ≡ ownedAt s (t .tags) (t .states) x (e .tag) → o ≡ entryPasses s t x p
+        pub tested-owned : (eqb (e .word) w || z) ≡ false → {r : Bool} → r ≡ ownedAt s (t .tags) (t .states) x (e .tag) → r ≡ entryPasses s t x p
         unfolding entryPasses passesWith
-        tested-owned w d = rw (← g, le-leb 8 (e .class) v, ← a, lt-leb (s .lines) home l, ← c, not-false b n, ne-eqb (e .word) (memoryAt t home) w) d
+        tested-owned k d = rw (← g, le-leb 8 (e .class) v, ← a, lt-leb (s .lines) home l, ← c, not-false b n, m, ← o, k) d

@@ -91,13 +91,13 @@ abbrev pub tablesOf : Model → Tables
 tablesOf t = tables (t .tags) (t .states) (t .words)
 
 -- Port p's entry e at index x passes: it is I; or its home line is there, it goes with the entries of the ports below p, and memory has
--- its word or some port owns the line.
+-- its word, or it or some port's entry owns the line.
 unfoldable pub passesWith : Shape → Model → ℕ → ℕ → Held → Bool
 passesWith s t x p e =
     let home = e .tag * s .sets + x in
     cond (leb 8 (e .class))
     (cond (leb (s .lines) home) false
-    (belowPass (s .sets) (tablesOf t) x p e && (eqb (e .word) (memoryAt t home) || ownedAt s (t .tags) (t .states) x (e .tag))))
+    (belowPass (s .sets) (tablesOf t) x p e && (eqb (e .word) (memoryAt t home) || isOwner (e .class) || ownedAt s (t .tags) (t .states) x (e .tag))))
     (eqb (e .class) 0)
 
 unfoldable pub entryPasses : Shape → Model → ℕ → ℕ → Bool

@@ -10,7 +10,7 @@ ghost use Rattle.protocol.specs.State.{stateOf};
 ghost use Rattle.ports.specs.Line.{tables, Within};
 ghost use Rattle.model.specs.Shape.{entries};
 ghost use Rattle.model.specs.Tables.{model};
-ghost use Rattle.audit.specs.Entries.{Sized, Ready, classOf, heldAt, compatible, goesWith, pairPasses, belowPass, ownsAt, ownedAt, entryPasses, indexPasses, columnsPass};
+ghost use Rattle.audit.specs.Entries.{Sized, Ready, classOf, isOwner, heldAt, compatible, goesWith, pairPasses, belowPass, ownsAt, ownedAt, entryPasses, indexPasses, columnsPass};
 ghost use Rattle.audit.specs.Verdict.{verdictOf};
 
 // The refusal, 0 if none, and the audit's yes or no.
@@ -37,6 +37,13 @@ pub fn class_of(b: u8) -> u8
     rules::nibble(0xFDB9000000A80, b)
 }
 
+// The class of O or M.
+pub fn is_owner(n: u8) -> bool
+    ensures { λ r. ⌜ r ≡ isOwner n ⌝ }
+{
+    n / 4 % 2 == 1
+}
+
 fn held_at(tags: &[u32], states: &[u8], data: &[u64], k: usize) -> Held
     requires { ⌜ Within (tables (now tags) (now states) (now «data»)) k ⌝ }
     ensures { λ r. ⌜ r ≡ heldAt (tables (now (tags .entry)) (now (states .entry)) (now («data» .entry))) k ⌝ }
@@ -53,7 +60,7 @@ fn compatible(n: u8, m: u8) -> bool
     ensures { λ r. ⌜ r ≡ compatible n m ⌝ }
 {
     let shared = !((n / 2 % 2 == 1) | (m / 2 % 2 == 1));
-    let owned_once = !((n / 4 % 2 == 1) & (m / 4 % 2 == 1));
+    let owned_once = !(is_owner(n) & is_owner(m));
     (m % 2 == n % 2) & shared & owned_once
 }
 
@@ -109,7 +116,7 @@ fn owns_at(tags: &[u32], states: &[u8], k: usize, tag: u32) -> bool
     requires { ⌜ (k < length (now tags)) × (k < length (now states)) ⌝ }
     ensures { λ r. ⌜ r ≡ ownsAt (now (tags .entry)) (now (states .entry)) tag k ⌝ }
 {
-    (tags[k] == tag) & (class_of(states[k]) / 4 % 2 == 1)
+    (tags[k] == tag) & is_owner(class_of(states[k]))
 }
 
 // Some port's entry at index x has the tag given and is O or M.
@@ -141,7 +148,7 @@ pub fn home_of(tag: u32, sets: usize, x: usize) -> usize
 }
 
 // Port p's entry at index x passes: it is I; or its home line is there, it goes with the entries of the ports below p, and memory has its
-// word or some port owns the line.
+// word, or it or some port's entry owns the line.
 fn entry_passes(
     shape: Shape,
     memory: &[u64],
@@ -168,7 +175,7 @@ fn entry_passes(
     if !below_pass(tags, states, data, shape, x, p, e) {
         return false;
     }
-    if e.word == memory[home] {
+    if (e.word == memory[home]) | is_owner(e.class) {
         return true;
     }
     owned_at(tags, states, shape, x, e.tag)

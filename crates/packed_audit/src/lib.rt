@@ -70,7 +70,7 @@ fn owns_at(shape: Shape, tags: &[u8], states: &[u8], k: usize, tag: u32) -> bool
     requires { ⌜ k < entries shape ⌝ }
     ensures { λ r. ⌜ r ≡ ownsAt (numbers 4 (entries shape) (now (tags .entry))) (now (states .entry)) tag k ⌝ }
 {
-    (entry::tag_at(tags, k) == tag) & (audit::class_of(states[k]) / 4 % 2 == 1)
+    (entry::tag_at(tags, k) == tag) & audit::is_owner(audit::class_of(states[k]))
 }
 
 // Some port's entry at index x has the tag given and is O or M.
@@ -93,7 +93,7 @@ fn owned_at(shape: Shape, tags: &[u8], states: &[u8], x: usize, tag: u32) -> boo
 }
 
 // Port p's entry at index x passes: it is I; or its home line is there, it goes with the entries of the ports below p, and memory has its
-// word or some port owns the line.
+// word, or it or some port's entry owns the line.
 fn entry_passes(
     shape: Shape,
     memory: &[u8],
@@ -120,7 +120,7 @@ fn entry_passes(
     if !below_pass(shape, tags, states, words, x, p, e) {
         return false;
     }
-    if e.word == entry::word_at(memory, home) {
+    if (e.word == entry::word_at(memory, home)) | audit::is_owner(e.class) {
         return true;
     }
     owned_at(shape, tags, states, x, e.tag)

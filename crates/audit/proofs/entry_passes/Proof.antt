@@ -1,8 +1,10 @@
 -- One look at the entry; then its home line, the lower ports, memory, and the owners. Assumes nothing.
+use borrow.Author.Needs.{needs}
+use mathlib.Core.Path.{refl}
 use native.Mathlib.Omega.{arith}
 use Rattle.model.proofs.Bounds.{bounded}
 use Rattle.audit.proofs.Places.{in-tables, sized}
-use Rattle.audit.proofs.Tested.{tested-free, tested-far, tested-apart, tested-clean, tested-owned}
+use Rattle.audit.proofs.Tested.{tested-free, tested-far, tested-apart, tested-kept, tested-owned}
 use Rattle.audit.proofs.entry_passes.Statement.{statement}
 use Rattle.audit.proofs.entry_passes.Tie as tie
 
@@ -37,13 +39,13 @@ shared-slice-read-if4 : tie.Need-shared-slice-read-if4
 shared-slice-read-if4 c = omega (arith, c .before .before .before .if2 .left, c .before .before .before .before .before .before .before .before .before .before .before .before .before .pre .0 .memory)
 
 returns-4 : tie.Need-returns-4
-returns-4 c = tested-clean _ _ _ _ (c .before .before .before .before .before .before .before .before .before .before .held-at .ensures) (c .before .before .before .before .before .before .before .before .if1 .left) (c .before .before .before .before .before .before .before .home-of .ensures) (c .before .before .before .before .before .if2 .left) (c .before .before .before .before .below-pass .ensures) (c .before .before .before .if3 .left) (c .if4 .taken)
+returns-4 c = tested-kept _ _ _ _ (c .before .before .before .before .before .before .before .before .before .before .before .held-at .ensures) (c .before .before .before .before .before .before .before .before .before .if1 .left) (c .before .before .before .before .before .before .before .before .home-of .ensures) (c .before .before .before .before .before .before .if2 .left) (c .before .before .before .before .before .below-pass .ensures) (c .before .before .before .before .if3 .left) refl (c .before .is-owner .ensures) (c .if4 .taken)
 
 owned-at-requires : tie.Need-owned-at-requires
-owned-at-requires c κs = ((c .before .before .before .before .before .before .before .before .before .before .before .before .before .before .before .pre .0 .tags, c .before .before .before .before .before .before .before .before .before .before .before .before .before .before .before .pre .0 .states), c .before .before .before .before .before .before .before .before .before .before .before .before .before .before .before .pre .1 .0)
+owned-at-requires c κs = ((c .before .before .before .before .before .before .before .before .before .before .before .before .before .before .before .before .pre .0 .tags, c .before .before .before .before .before .before .before .before .before .before .before .before .before .before .before .before .pre .0 .states), c .before .before .before .before .before .before .before .before .before .before .before .before .before .before .before .before .pre .1 .0)
 
 returns-5 : tie.Need-returns-5
-returns-5 c = tested-owned _ _ _ _ (c .before .before .before .before .before .before .before .before .before .before .before .held-at .ensures) (c .before .before .before .before .before .before .before .before .before .if1 .left) (c .before .before .before .before .before .before .before .before .home-of .ensures) (c .before .before .before .before .before .before .if2 .left) (c .before .before .before .before .before .below-pass .ensures) (c .before .before .before .before .if3 .left) (c .before .if4 .left) (c .owned-at .ensures)
+returns-5 c = tested-owned _ _ _ _ (c .before .before .before .before .before .before .before .before .before .before .before .before .held-at .ensures) (c .before .before .before .before .before .before .before .before .before .before .if1 .left) (c .before .before .before .before .before .before .before .before .before .home-of .ensures) (c .before .before .before .before .before .before .before .if2 .left) (c .before .before .before .before .before .before .below-pass .ensures) (c .before .before .before .before .before .if3 .left) refl (c .before .before .is-owner .ensures) (c .before .if4 .left) (c .owned-at .ensures)
 
 pub entry-passes-spec : {M : Type 1} → statement M
 entry-passes-spec =
@@ -59,6 +61,7 @@ entry-passes-spec =
     returns-3
     mul-if4
     shared-slice-read-if4
+    (λ c κs. search needs)
     returns-4
     owned-at-requires
     returns-5)

@@ -6,7 +6,7 @@ use Rattle.audit.proofs.owns_at.Tie as tie
 
 returns : tie.Need-returns
 unfolding ownsAt
-returns c = rw (c .class-of .ensures)
+returns c = rw (c .is-owner .ensures, c .before .class-of .ensures)
 
 pub owns-at-spec : {M : Type 1} → statement M
 owns-at-spec =
@@ -15,5 +15,6 @@ owns-at-spec =
     (λ c. search needs)
     (λ c. search needs)
     (λ c. search needs)
+    (λ c κs. search needs)
     (λ c κs. search needs)
     returns)

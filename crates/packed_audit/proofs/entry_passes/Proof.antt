@@ -1,10 +1,9 @@
 -- One look at the entry; then its home line, the lower ports, memory, and the owners. Assumes nothing.
 use borrow.Author.Needs.{needs}
-use mathlib.Core.Path.{_∙_, sym}
 use lib.Arith.{digits-lt}
 use native.Mathlib.Omega.{arith}
 use Rattle.model.proofs.Bounds.{bounded}
-use Rattle.audit.proofs.Tested.{tested-free, tested-far, tested-apart, tested-clean, tested-owned}
+use Rattle.audit.proofs.Tested.{tested-free, tested-far, tested-apart, tested-kept, tested-owned}
 use Rattle.packed_audit.proofs.Places.{memory-is}
 use Rattle.packed_audit.proofs.entry_passes.Statement.{statement}
 use Rattle.packed_audit.proofs.entry_passes.Tie as tie
@@ -31,13 +30,13 @@ returns-3 : tie.Need-returns-3
 returns-3 c = tested-apart _ _ _ _ (c .before .before .before .before .before .before .before .held-at .ensures) (c .before .before .before .before .before .if1 .left) (c .before .before .before .before .home-of .ensures) (c .before .before .if2 .left) (c .before .below-pass .ensures) (c .if3 .taken)
 
 returns-4 : tie.Need-returns-4
-returns-4 c = tested-clean _ _ _ _ (c .before .before .before .before .before .before .before .before .before .before .held-at .ensures) (c .before .before .before .before .before .before .before .before .if1 .left) (c .before .before .before .before .before .before .before .home-of .ensures) (c .before .before .before .before .before .if2 .left) (c .before .before .before .before .below-pass .ensures) (c .before .before .before .if3 .left) ((c .if4 .taken) ∙ sym (memory-is (c .before .before .before .before .before .before .before .before .before .before .before .before .before .before .before .pre .0) (c .before .before .before .before .before .if2 .left) (c .before .before .word-at .ensures)))
+returns-4 c = tested-kept _ _ _ _ (c .before .before .before .before .before .before .before .before .before .before .before .held-at .ensures) (c .before .before .before .before .before .before .before .before .before .if1 .left) (c .before .before .before .before .before .before .before .before .home-of .ensures) (c .before .before .before .before .before .before .if2 .left) (c .before .before .before .before .before .below-pass .ensures) (c .before .before .before .before .if3 .left) (memory-is (c .before .before .before .before .before .before .before .before .before .before .before .before .before .before .before .before .pre .0) (c .before .before .before .before .before .before .if2 .left) (c .before .before .before .word-at .ensures)) (c .before .is-owner .ensures) (c .if4 .taken)
 
 owned-at-requires : tie.Need-owned-at-requires
-owned-at-requires c κs = ((c .before .before .before .before .before .before .before .before .before .before .before .before .before .before .before .pre .0 .filled .tags-fit, c .before .before .before .before .before .before .before .before .before .before .before .before .before .before .before .pre .0 .filled .states-fit), c .before .before .before .before .before .before .before .before .before .before .before .before .before .before .before .pre .1 .0)
+owned-at-requires c κs = ((c .before .before .before .before .before .before .before .before .before .before .before .before .before .before .before .before .pre .0 .filled .tags-fit, c .before .before .before .before .before .before .before .before .before .before .before .before .before .before .before .before .pre .0 .filled .states-fit), c .before .before .before .before .before .before .before .before .before .before .before .before .before .before .before .before .pre .1 .0)
 
 returns-5 : tie.Need-returns-5
-returns-5 c = tested-owned _ _ _ _ (c .before .before .before .before .before .before .before .before .before .before .before .held-at .ensures) (c .before .before .before .before .before .before .before .before .before .if1 .left) (c .before .before .before .before .before .before .before .before .home-of .ensures) (c .before .before .before .before .before .before .if2 .left) (c .before .before .before .before .before .below-pass .ensures) (c .before .before .before .before .if3 .left) (λ same. c .before .if4 .left (same ∙ memory-is (c .before .before .before .before .before .before .before .before .before .before .before .before .before .before .before .before .pre .0) (c .before .before .before .before .before .before .if2 .left) (c .before .before .before .word-at .ensures))) (c .owned-at .ensures)
+returns-5 c = tested-owned _ _ _ _ (c .before .before .before .before .before .before .before .before .before .before .before .before .held-at .ensures) (c .before .before .before .before .before .before .before .before .before .before .if1 .left) (c .before .before .before .before .before .before .before .before .before .home-of .ensures) (c .before .before .before .before .before .before .before .if2 .left) (c .before .before .before .before .before .before .below-pass .ensures) (c .before .before .before .before .before .if3 .left) (memory-is (c .before .before .before .before .before .before .before .before .before .before .before .before .before .before .before .before .before .pre .0) (c .before .before .before .before .before .before .before .if2 .left) (c .before .before .before .before .word-at .ensures)) (c .before .before .is-owner .ensures) (c .before .if4 .left) (c .owned-at .ensures)
 
 pub entry-passes-spec : {M : Type 1} → statement M
 entry-passes-spec =
@@ -51,6 +50,7 @@ entry-passes-spec =
     returns-2
     (λ c κs. search needs)
     returns-3
+    (λ c κs. search needs)
     (λ c κs. search needs)
     returns-4
     owned-at-requires

@@ -7,7 +7,7 @@ use Rattle.packed_audit.proofs.owns_at.Tie as tie
 
 returns : tie.Need-returns
 unfolding ownsAt
-returns c = rw (c .class-of .ensures, tag-is _ _ (c .before .before .before .before .before .pre .1) (c .before .before .tag-at .ensures))
+returns c = rw (c .is-owner .ensures, c .before .class-of .ensures, tag-is _ _ (c .before .before .before .before .before .before .pre .1) (c .before .before .before .tag-at .ensures))
 
 pub owns-at-spec : {M : Type 1} → statement M
 owns-at-spec =
@@ -15,5 +15,6 @@ owns-at-spec =
     (tie.spec
     (λ c κs. search needs)
     (λ c. search needs)
+    (λ c κs. search needs)
     (λ c κs. search needs)
     returns)
