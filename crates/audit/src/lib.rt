@@ -69,8 +69,10 @@ fn compatible(n: u8, m: u8) -> bool
 pub fn goes_with(e: Held, f: Held) -> bool
     ensures { λ r. ⌜ r ≡ goesWith e f ⌝ }
 {
-    let held = 8 <= f.class;
-    !held | ((f.word == e.word) & compatible(e.class, f.class))
+    if f.class < 8 {
+        return true;
+    }
+    (f.word == e.word) & compatible(e.class, f.class)
 }
 
 // The same of any entry of another port at e's index, by its number k: it may be of another line.
