@@ -80,24 +80,23 @@ unfolding coded
 coded-bus r = refl
 
 -- The decision as the code makes it.
-pub decide-is : (tag : ℕ) (e : Entry) (s : Survey) (found memory : ℕ) (a : Access) (m : Mode) {y : Byte} {v o : Bool} {u w b : ℕ} {k : Effect} {r : Coded}
-    → y ≡ stateOf (e .byte) → v ≡ valid (orInvalid y) → u ≡ cond (s .dirty) found memory → w ≡ cond (eqb (e .tag) tag && v) (e .word) u → k ≡ effectAt a w
-    → b ≡ cond (eqb (e .tag) tag && v) (e .byte) 0 → r ≡ coded (rule (k .outcome) m (s .shared) (s .dirty) (orInvalid (stateOf b))) → o ≡ owner (orInvalid y)
+pub decide-is : (hit : Bool) (e : Entry) (shared dirty : Bool) (w : ℕ) (a : Access) (m : Mode) {y : Byte} {o : Bool} {b : ℕ} {k : Effect} {r : Coded}
+    → k ≡ effectAt a w → b ≡ cond hit (e .byte) 0 → r ≡ coded (rule (k .outcome) m shared dirty (orInvalid (stateOf b))) → y ≡ stateOf (e .byte) → o ≡ owner (orInvalid y)
     → _≡_ {A = Outcome} (record {
       value = k .value;
       swapped = k .swapped;
-      fetched = not (eqb (e .tag) tag && v) && not (s .dirty);
-      evicts = not (eqb (e .tag) tag && v) && o;
+      fetched = not hit && not dirty;
+      evicts = not hit && o;
       tag = e .tag;
       old = e .word;
       stores = r .stores;
       word = k .word;
       own = r .own;
       bus = r .bus;
-    }) (decideOf tag e s found memory a m)
+    }) (decideOf hit e shared dirty w a m)
     × (r .bus < 7)
 unfolding decideOf
-decide-is tag e s found memory a m p1 p2 p3 p4 p5 p6 p7 p8 = (rw (p8, p7, p6, p5, p4, p3, p2, p1), rw p7 (coded-below _))
+decide-is hit e shared dirty w a m p1 p2 p3 p4 p5 = (rw (p5, p4, p3, p2, p1), rw p3 (coded-below _))
   where
     coded-below : (r : Rule) → coded r .bus < 7
     coded-below r = rw (coded-bus r) (bus-below (r .bus))
@@ -108,23 +107,13 @@ chosen-state true b e s = rw e s
 chosen-state false b e s = rw e refl
 
 module _ (l : Line) (t : Tables) (i : ℕ) where
-  -- The lowest owner's word, by its entry's number.
-  first-word : (memory : ℕ) → cond (dirtyIn l t i) (getD (t .words) (atOr (numberOf l) 0 (lowest (ownsIn l (t .tags) (t .states)) (l .ports))) 0) memory
-      ≡ atOr (wordBy l t i) memory (lowest (ownsIn l (t .tags) (t .states)) (l .ports))
-  unfolding dirtyIn atOr
-  first-word memory =
-      lowest-cases (λ x. cond (anyBelow (ownsIn l (t .tags) (t .states)) (l .ports)) (getD (t .words) (atOr (numberOf l) 0 x) 0) memory ≡ atOr (wordBy l t i) memory x)
-      (ownsIn l (t .tags) (t .states)) (l .ports)
-      (λ p h o. rw (any-below (ownsIn l (t .tags) (t .states)) (l .ports) p h o))
-      (λ u. rw (not-true (anyBelow (ownsIn l (t .tags) (t .states)) (l .ports)) u))
-
   -- The decision on values is the outcome on the tables.
-  pub decided : (memory : ℕ) (a : Access) (m : Mode)
-      → decideOf (l .tag) (entryAt t (numberOf l i)) (surveyOf l (t .tags) (t .states) i (l .ports)) (getD (t .words) (surveyOf l (t .tags) (t .states) i (l .ports) .first) 0) memory a m
-      ≡ outcomeIn l t i memory a m
-  unfolding decideOf outcomeIn entryAt surveyOf foundIn ruleIn sharedIn dirtyIn seenIn
-  decided memory a m =
-      rw (hit-state (eqb (getD (t .tags) (numberOf l i) 0) (l .tag)) (byteBy l t i i), valid-here (eqb (getD (t .tags) (numberOf l i) 0) (l .tag)) (orInvalid (stateOf (byteBy l t i i))), first-word memory)
+  pub decided : (memory : ℕ) (a : Access) (m : Mode) {hit shared dirty : Bool} {w : ℕ} {e : Entry} → e ≡ entryAt t (numberOf l i) → hit ≡ valid (seenBy l t i i)
+      → shared ≡ sharedIn l t i → dirty ≡ dirtyIn l t i → w ≡ foundIn l t i memory → decideOf hit e shared dirty w a m ≡ outcomeIn l t i memory a m
+  unfolding decideOf outcomeIn entryAt ruleIn seenIn
+  decided memory a m ee eh es ed ew =
+      let here = eqb (getD (t .tags) (numberOf l i) 0) (l .tag) in
+      rw (ee, eh, es, ed, ew, ← valid-here here (orInvalid (stateOf (byteBy l t i i))), hit-state here (byteBy l t i i))
 
   -- In a sound column every byte is a state.
   pub column-state : Is (columnIn l t i) → (p : ℕ) → p < l .ports → Is (isState (stateOf (byteBy l t i p)))
@@ -199,77 +188,62 @@ module _ (l : Line) (t : Tables) (i : ℕ) where
         (own-alone (numberOf l) inj (byteAfterIn l t i r) (l .ports) (t .states) i (code (r .own)) port own-byte (byte-unsent h))
         (own-alone (numberOf l) inj (wordAfterIn l t i r w) (l .ports) (t .words) i w port own-word (word-unsent h)))))
 
-  -- An access as the code makes it, from its survey on.
-  module _ (memory : ℕ) (a : Access) (m : Mode) {s : Survey} (es : s ≡ surveyOf l (t .tags) (t .states) i (l .ports)) where
-    column-is : s .sound ≡ columnIn l t i
-    unfolding surveyOf columnIn
-    column-is = ap (λ (x : Survey). x .sound) es
-
-    pub unsound : not (s .sound) ≡ true → (Unsound ≡ accessIn l t i memory a m) × (t ≡ accessTables l t i memory a m)
+  -- An access as the code makes it, from what it learns of the ports on.
+  module _ (memory : ℕ) (a : Access) (m : Mode) {sound : Bool} (column : sound ≡ columnIn l t i) where
+    pub unsound : not sound ≡ true → (Unsound ≡ accessIn l t i memory a m) × (t ≡ accessTables l t i memory a m)
     unfolding accessIn accessTables
-    unsound h = let c : columnIn l t i ≡ false = sym column-is ∙ not-true (s .sound) h in (rw c, rw c)
+    unsound h = let c : columnIn l t i ≡ false = sym column ∙ not-true sound h in (rw c, rw c)
 
-    pub sound-column : not (s .sound) ≡ false → Is (columnIn l t i)
-    sound-column h = sym column-is ∙ not-false (s .sound) h
+    pub sound-column : not sound ≡ false → Is (columnIn l t i)
+    sound-column h = sym column ∙ not-false sound h
 
-    -- The entry's byte is a state, and the first owner's entry is there.
-    pub entry-state : not (s .sound) ≡ false → i < l .ports → {e : Entry} → e ≡ entryAt t (numberOf l i) → Is (isState (stateOf (e .byte)))
+    -- The entry's byte is a state.
+    pub entry-state : not sound ≡ false → i < l .ports → {e : Entry} → e ≡ entryAt t (numberOf l i) → Is (isState (stateOf (e .byte)))
     unfolding entryAt
     entry-state h port ee = rw ee (column-state (sound-column h) i port)
 
     abbrev eff : Effect
     eff = effectAt a (foundIn l t i memory)
 
-    put-done : not (s .sound) ≡ false → l .index < l .sets → i < l .ports → {o : Outcome} {y : Tables} → o ≡ outcomeIn l t i memory a m
-        → y ≡ asked l (s .shared) (o .bus) (o .word) i t
+    put-done : not sound ≡ false → l .index < l .sets → i < l .ports → {o : Outcome} {y : Tables} → o ≡ outcomeIn l t i memory a m
+        → y ≡ asked l (sharedIn l t i) (o .bus) (o .word) i t
         → putAt y (numberOf l i) (record { tag = l .tag; byte = o .own; word = o .word }) ≡ appliedIn l t i (ruleIn l t i m eff) (eff .word)
-    unfolding outcomeIn coded surveyOf sharedIn
-    put-done h inside port eo ey = rw eo (put-applied inside port (column-state (sound-column h)) (ruleIn l t i m eff) (eff .word) (rw (eo, es) at ey))
+    unfolding outcomeIn coded
+    put-done h inside port eo ey = rw eo (put-applied inside port (column-state (sound-column h)) (ruleIn l t i m eff) (eff .word) (rw eo at ey))
 
-    pub done : not (s .sound) ≡ false → l .index < l .sets → i < l .ports → {e : Entry} {o : Outcome} {y z : Tables}
-        → e ≡ entryAt t (numberOf l i) → o ≡ decideOf (l .tag) e s (getD (t .words) (s .first) 0) memory a m
-        → y ≡ asked l (s .shared) (o .bus) (o .word) i t
+    pub done : not sound ≡ false → l .index < l .sets → i < l .ports → {hit shared dirty : Bool} {w : ℕ} {e : Entry} {o : Outcome} {y z : Tables}
+        → e ≡ entryAt t (numberOf l i) → hit ≡ valid (seenBy l t i i) → shared ≡ sharedIn l t i → dirty ≡ dirtyIn l t i → w ≡ foundIn l t i memory
+        → o ≡ decideOf hit e shared dirty w a m
+        → y ≡ asked l shared (o .bus) (o .word) i t
         → z ≡ putAt y (numberOf l i) (record { tag = l .tag; byte = o .own; word = o .word })
         → (Done o ≡ accessIn l t i memory a m) × (z ≡ accessTables l t i memory a m)
     unfolding accessIn accessTables
-    done h inside port {o = o} ee eo ey ez =
+    done h inside port {o = o} ee eh es ed ew eo ey ez =
         let c = sound-column h in
-        let is : o ≡ outcomeIn l t i memory a m = eo ∙ rw (ee, es) (decided memory a m) in
-        (rw (c, is), rw c (ez ∙ put-done h inside port is ey))
+        let is : o ≡ outcomeIn l t i memory a m = eo ∙ decided memory a m ee eh es ed ew in
+        (rw (c, is), rw c (ez ∙ put-done h inside port is (rw es at ey)))
 
   -- A flush as the code makes it.
-  module _ {s : Survey} (es : s ≡ surveyOf l (t .tags) (t .states) i (l .ports)) where
-    flush-column : s .sound ≡ columnIn l t i
-    unfolding surveyOf columnIn
-    flush-column = ap (λ (x : Survey). x .sound) es
-
-    pub flush-unsound : not (s .sound) ≡ true → (flushes.Unsound ≡ flushIn l t i) × (t ≡ flushTables l t i)
+  module _ {sound : Bool} (column : sound ≡ columnIn l t i) where
+    pub flush-unsound : not sound ≡ true → (flushes.Unsound ≡ flushIn l t i) × (t ≡ flushTables l t i)
     unfolding flushIn flushTables
-    flush-unsound h = let c : columnIn l t i ≡ false = sym flush-column ∙ not-true (s .sound) h in (rw c, rw c)
+    flush-unsound h = let c : columnIn l t i ≡ false = sym column ∙ not-true sound h in (rw c, rw c)
 
-    module _ (h : not (s .sound) ≡ false) {e : Entry} (ee : e ≡ entryAt t (numberOf l i)) {y : Byte} {v : Bool} (ey : y ≡ stateOf (e .byte)) (ev : v ≡ valid (orInvalid y)) where
+    module _ (h : not sound ≡ false) {hit : Bool} {w : ℕ} (eh : hit ≡ valid (seenBy l t i i)) (ew : w ≡ wordBy l t i i) where
       flush-sound : columnIn l t i ≡ true
-      flush-sound = sym flush-column ∙ not-false (s .sound) h
-
-      hit-is : (eqb (e .tag) (l .tag) && v) ≡ valid (seenBy l t i i)
-      unfolding entryAt seenIn
-      hit-is = rw (ev, ey, ee) (valid-here (eqb (getD (t .tags) (numberOf l i) 0) (l .tag)) (orInvalid (stateOf (byteBy l t i i))))
+      flush-sound = sym column ∙ not-false sound h
 
       -- The line is not held: nothing changes.
-      pub flush-away : (eqb (e .tag) (l .tag) && v) ≡ false → (flushes.Done false (e .word) ≡ flushIn l t i) × (t ≡ flushTables l t i)
-      unfolding flushIn flushTables entryAt
-      flush-away away = let n : valid (seenBy l t i i) ≡ false = sym hit-is ∙ away in (rw (flush-sound, n, ee), rw (flush-sound, n))
+      pub flush-away : hit ≡ false → (flushes.Done false w ≡ flushIn l t i) × (t ≡ flushTables l t i)
+      unfolding flushIn flushTables
+      flush-away away = let n : valid (seenBy l t i i) ≡ false = sym eh ∙ away in (rw (flush-sound, n, ew), rw (flush-sound, n))
 
       -- It is held: the entry becomes I, and all else stays.
-      held-state : (eqb (e .tag) (l .tag) && v) ≡ true → seenBy l t i i ≡ orInvalid y
-      unfolding entryAt seenIn
-      held-state held =
-          let tag : eqb (getD (t .tags) (numberOf l i) 0) (l .tag) ≡ true = and-l _ v (rw ee at held) in
-          rw (tag, ey, ee)
-
-      same-tag : (eqb (e .tag) (l .tag) && v) ≡ true → l .tag ≡ getD (t .tags) (numberOf l i) 0
-      unfolding entryAt
-      same-tag held = sym (eqb-true _ _ (and-l _ v (rw ee at held)))
+      same-tag : Is (valid (seenBy l t i i)) → l .tag ≡ getD (t .tags) (numberOf l i) 0
+      unfolding seenIn
+      same-tag =
+          by-cond (λ (x : State). Is (valid x) → l .tag ≡ getD (t .tags) (numberOf l i) 0) (eqb (getD (t .tags) (numberOf l i) 0) (l .tag)) (orInvalid (stateOf (byteBy l t i i))) I
+          (λ z _. sym (eqb-true _ _ z)) (λ _ v. absurd (false≢true v))
 
       quiet-flush : t ≡ asked l (sharedIn l t i) (busNumber (flushRule (seenBy l t i i) .bus)) (wordBy l t i i) i t
       unfolding asked busNumber
@@ -279,7 +253,7 @@ module _ (l : Line) (t : Tables) (i : ℕ) where
           nobody true x = refl
           nobody false x = refl
 
-      emptied : (eqb (e .tag) (l .tag) && v) ≡ true → l .index < l .sets → i < l .ports
+      emptied : Is (valid (seenBy l t i i)) → l .index < l .sets → i < l .ports
           → tables (t .tags) (set (t .states) (numberOf l i) 0) (t .words) ≡ appliedIn l t i (flushRule (seenBy l t i i)) (wordBy l t i i)
       unfolding putAt code
       emptied held inside port =
@@ -288,12 +262,56 @@ module _ (l : Line) (t : Tables) (i : ℕ) where
           (sym (set-getD (t .words) (numberOf l i) 0))
           ∙ put-applied inside port (column-state flush-sound) (flushRule (seenBy l t i i)) (wordBy l t i i) quiet-flush
 
-      pub flush-held : (eqb (e .tag) (l .tag) && v) ≡ true → l .index < l .sets → i < l .ports → {o : Bool} → o ≡ owner (orInvalid y)
-          → (flushes.Done o (e .word) ≡ flushIn l t i) × (tables (t .tags) (set (t .states) (numberOf l i) 0) (t .words) ≡ flushTables l t i)
-      unfolding flushIn flushTables entryAt
+      pub flush-held : hit ≡ true → l .index < l .sets → i < l .ports → {o : Bool} → o ≡ owner (seenBy l t i i)
+          → (flushes.Done o w ≡ flushIn l t i) × (tables (t .tags) (set (t .states) (numberOf l i) 0) (t .words) ≡ flushTables l t i)
+      unfolding flushIn flushTables
       flush-held held inside port eo =
-          let n : valid (seenBy l t i i) ≡ true = sym hit-is ∙ held in
-          (rw (flush-sound, n, flush-stores (seenBy l t i i), held-state held, eo, ee), rw (flush-sound, n) (emptied held inside port))
+          let n : valid (seenBy l t i i) ≡ true = sym eh ∙ held in
+          (rw (flush-sound, n, flush-stores (seenBy l t i i), eo, ew), rw (flush-sound, n) (emptied n inside port))
+
+  -- What the survey says is what the definitions ask.
+  module _ {s : Survey} (es : s ≡ surveyOf l (t .tags) (t .states) i (l .ports)) where
+    pub survey-column : s .sound ≡ columnIn l t i
+    unfolding surveyOf columnIn
+    survey-column = ap (λ (x : Survey). x .sound) es
+
+    pub survey-shared : s .shared ≡ sharedIn l t i
+    unfolding surveyOf sharedIn
+    survey-shared = ap (λ (x : Survey). x .shared) es
+
+    pub survey-dirty : s .dirty ≡ dirtyIn l t i
+    unfolding surveyOf dirtyIn
+    survey-dirty = ap (λ (x : Survey). x .dirty) es
+
+    -- The lowest owner's word, by its entry's number.
+    first-word : (memory : ℕ) → cond (s .dirty) (getD (t .words) (s .first) 0) memory ≡ atOr (wordBy l t i) memory (lowest (ownsIn l (t .tags) (t .states)) (l .ports))
+    unfolding surveyOf atOr
+    first-word memory =
+        rw es (lowest-cases (λ x. cond (anyBelow (ownsIn l (t .tags) (t .states)) (l .ports)) (getD (t .words) (atOr (numberOf l) 0 x) 0) memory ≡ atOr (wordBy l t i) memory x)
+        (ownsIn l (t .tags) (t .states)) (l .ports)
+        (λ p h o. rw (any-below (ownsIn l (t .tags) (t .states)) (l .ports) p h o))
+        (λ u. rw (not-true (anyBelow (ownsIn l (t .tags) (t .states)) (l .ports)) u)))
+
+    pub first-found : (memory : ℕ) {hit : Bool} {e : Entry} {u w : ℕ} → e ≡ entryAt t (numberOf l i) → hit ≡ valid (seenBy l t i i)
+        → u ≡ cond (s .dirty) (getD (t .words) (s .first) 0) memory → w ≡ cond hit (e .word) u → w ≡ foundIn l t i memory
+    unfolding foundIn entryAt
+    first-found memory ee eh eu ew = rw (ew, eu, eh, ee, first-word memory)
+
+  -- A hit, from the port's own entry; and where it is one, whether the port owns the line.
+  module _ {e : Entry} (ee : e ≡ entryAt t (numberOf l i)) {y : Byte} {v : Bool} (ey : y ≡ stateOf (e .byte)) (ev : v ≡ valid (orInvalid y)) where
+    pub hit-is : (eqb (e .tag) (l .tag) && v) ≡ valid (seenBy l t i i)
+    unfolding entryAt seenIn
+    hit-is = rw (ev, ey, ee) (valid-here (eqb (getD (t .tags) (numberOf l i) 0) (l .tag)) (orInvalid (stateOf (byteBy l t i i))))
+
+    pub own-is : (eqb (e .tag) (l .tag) && v) ≡ true → {o : Bool} → o ≡ owner (orInvalid y) → o ≡ owner (seenBy l t i i)
+    unfolding entryAt seenIn
+    own-is held eo =
+        let tag : eqb (getD (t .tags) (numberOf l i) 0) (l .tag) ≡ true = and-l _ v (rw ee at held) in
+        rw (tag, eo, ey, ee)
+
+    pub entry-word : e .word ≡ wordBy l t i i
+    unfolding entryAt
+    entry-word = ap (λ (x : Entry). x .word) ee
 
 -- The first owner's entry is in the tables.
 pub first-there : (l : Line) (g h : List ℕ) (i n : ℕ) {s : Survey} → s ≡ surveyOf l g h i (l .ports) → l .index < l .sets → i < l .ports → n ≡ l .ports * l .sets

@@ -17,7 +17,6 @@ use Rattle.model.specs.Below.{allBelow, anyBelow, lowest, atOr}
 use Rattle.model.specs.Step.{putBelow}
 use Rattle.ports.specs.declared.line.Line.{Line}
 use Rattle.ports.specs.declared.line.Entry.{Entry}
-use Rattle.ports.specs.declared.survey.Survey.{Survey}
 use Rattle.caches.specs.declared.access.Outcome.{Outcome}
 use Rattle.caches.specs.declared.access.Accessed.{Accessed}
 use Rattle.caches.specs.declared.access.Accessed.the-variants.{Unsound, Done}
@@ -25,10 +24,6 @@ use Rattle.caches.specs.declared.access.Flushed.{Flushed}
 use Rattle.caches.specs.declared.access.Flushed.the-variants as flushes
 use Rattle.ports.specs.Line.{Tables, tables, numberOf, seenIn}
 use Rattle.ports.specs.Survey.{soundIn, holdsIn, ownsIn}
-
--- The decision of an access on values: the port's entry e, what the ports say, the first owner's word and memory's.
-abbrev pub isHit : ℕ → Entry → Bool
-isHit tag e = eqb (e .tag) tag && valid (orInvalid (stateOf (e .byte)))
 
 abbrev pub outcome : Entry → Bool → Bool → Effect → Coded → Outcome
 outcome e hit dirty k r = record {
@@ -44,11 +39,12 @@ outcome e hit dirty k r = record {
   bus = r .bus;
 }
 
-unfoldable pub decideOf : ℕ → Entry → Survey → ℕ → ℕ → Access → Mode → Outcome
-decideOf tag e s found memory a m =
-    let hit = isHit tag e in
-    let k = effectAt a (cond hit (e .word) (cond (s .dirty) found memory)) in
-    outcome e hit (s .dirty) k (coded (rule (k .outcome) m (s .shared) (s .dirty) (orInvalid (stateOf (cond hit (e .byte) 0)))))
+-- The decision of an access on values: whether it is a hit, the port's entry e, whether another port holds the line, whether some port owns
+-- it, and the word w that the port finds.
+unfoldable pub decideOf : Bool → Entry → Bool → Bool → ℕ → Access → Mode → Outcome
+decideOf hit e shared dirty w a m =
+    let k = effectAt a w in
+    outcome e hit dirty k (coded (rule (k .outcome) m shared dirty (orInvalid (stateOf (cond hit (e .byte) 0)))))
 
 module _ (l : Line) (t : Tables) (i : ℕ) where
   abbrev pub seenBy : ℕ → State

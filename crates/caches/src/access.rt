@@ -1,16 +1,15 @@
 // One access or flush by a port, on the tables of a line.
 use ports::bus;
-use ports::choose;
 use ports::line;
 use ports::line::Entry;
 use ports::line::Line;
 use ports::survey;
-use ports::survey::Survey;
 use protocol::rules;
 use protocol::state;
 use protocol::state::Mode;
 use words::access;
 use words::access::Access;
+use words::choose;
 ghost use mathlib.Core.Path.{_≡_};
 ghost use mathlib.Core.Bool.{true};
 ghost use Prim.Native.Nat.{_<_};
@@ -46,29 +45,21 @@ pub enum Flushed {
     Done(bool, u64),
 }
 
-// The decision of an access, by the port's entry, what the ports say, the first owner's word and memory's.
-pub fn decide(tag: u32, e: Entry, s: Survey, found: u64, memory: u64, a: Access, m: Mode) -> Outcome
+// The decision of an access: whether it is a hit, the port's entry, whether another port holds the line, whether some port owns it, and the
+// word that the port finds.
+pub fn decide(hit: bool, e: Entry, shared: bool, dirty: bool, w: u64, a: Access, m: Mode) -> Outcome
     requires { ⌜ isState (stateOf (e .byte)) ≡ true ⌝ }
-    ensures { λ r. ⌜ (r ≡ decideOf tag e s found memory a m) × (r .bus < 7) ⌝ }
+    ensures { λ r. ⌜ (r ≡ decideOf hit e shared dirty w a m) × (r .bus < 7) ⌝ }
 {
     let b = e.byte;
-    let byte = state::byte_state(b);
-    let hit = (e.tag == tag) & state::is_valid(byte);
-    let w = choose::choose_word(hit, e.word, choose::choose_word(s.dirty, found, memory));
     let k = access::effect_at(a, w);
     let outcome = k.outcome;
-    let r = rules::own_rule(
-        outcome,
-        m,
-        s.shared,
-        s.dirty,
-        choose::choose_byte(hit, b, 0),
-    );
+    let r = rules::own_rule(outcome, m, shared, dirty, choose::choose_byte(hit, b, 0));
     Outcome {
         value: k.value,
         swapped: k.swapped,
-        fetched: !hit & !s.dirty,
-        evicts: !hit & state::is_owner(byte),
+        fetched: !hit & !dirty,
+        evicts: !hit & state::is_owner(state::byte_state(b)),
         tag: e.tag,
         old: e.word,
         stores: r.stores,
@@ -103,7 +94,10 @@ pub fn access_line(
     let k = i * sets + line.index;
     let e = line::entry_at(tags, states, data, k);
     let first = s.first;
-    let o = decide(line.tag, e, s, data[first], memory, a, m);
+    let owned = choose::choose_word(s.dirty, data[first], memory);
+    let hit = (e.tag == line.tag) & state::is_valid(state::byte_state(e.byte));
+    let w = choose::choose_word(hit, e.word, owned);
+    let o = decide(hit, e, s.shared, s.dirty, w, a, m);
     bus::ask(tags, states, data, line, i, s.shared, o.bus, o.word);
     line::put_entry(
         tags,

@@ -1,5 +1,9 @@
--- An order of a word and an operand, and a call whose port and line are there.
+-- An order of a word and an operand, the access of a kind, and a call whose port and line are there.
 use Prim.Native.Nat.{ℕ, _<_}
+use mathlib.Core.Bool.{cond}
+use lib.Dec.{eqb}
+use Rattle.words.specs.declared.access.Access.{Access}
+use Rattle.words.specs.declared.access.Access.the-variants.{Read, Write, Swap}
 use Rattle.model.specs.declared.shape.Shape.{Shape}
 use Rattle.model.specs.declared.order.Call.{Call}
 use Rattle.model.specs.declared.order.Call.the-variants.{ByPort, Flush, DeviceRead}
@@ -9,6 +13,10 @@ use Rattle.model.specs.Order.{Order}
 
 abbrev pub order : ℕ → ℕ → Order
 order w x = record { word = w; operand = x }
+
+-- The access that the kinds 0 to 2 ask.
+unfoldable pub accessOf : ℕ → ℕ → ℕ → ℕ → Access
+accessOf kind mask compare x = cond (eqb kind 0) Read (cond (eqb kind 1) (Write mask x) (Swap mask x compare))
 
 -- The refusal of an order taken apart, 0 where it asks something.
 abbrev pub refusalIn : Decoded → ℕ

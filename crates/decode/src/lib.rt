@@ -6,7 +6,7 @@ use protocol::state::Mode;
 use words::access::Access;
 ghost use mathlib.Core.Path.{_≡_};
 ghost use Rattle.model.specs.Order.{modeIn, checked, callOf, decode};
-ghost use Rattle.decode.specs.Order.{order, refusalIn};
+ghost use Rattle.decode.specs.Order.{order, accessOf, refusalIn};
 
 fn mode_in(w: u64) -> Mode
     ensures { λ r. ⌜ r ≡ modeIn w ⌝ }
@@ -18,17 +18,24 @@ fn mode_in(w: u64) -> Mode
     }
 }
 
+// What the kinds 0 to 2 ask: read, write, and else compare-and-swap.
+fn access_of(kind: u64, mask: u8, compare: u64, x: u64) -> Access
+    ensures { λ r. ⌜ r ≡ accessOf kind mask compare x ⌝ }
+{
+    if kind == 0 {
+        return Access::Read;
+    }
+    if kind == 1 {
+        return Access::Write(mask, x);
+    }
+    Access::Swap(mask, x, compare)
+}
+
 fn call_of(kind: u64, m: Mode, port: usize, mask: u8, line: usize, compare: u64, x: u64) -> Call
     ensures { λ r. ⌜ r ≡ callOf kind m port mask line compare x ⌝ }
 {
-    if kind == 0 {
-        return Call::ByPort(Access::Read, m, port, line);
-    }
-    if kind == 1 {
-        return Call::ByPort(Access::Write(mask, x), m, port, line);
-    }
-    if kind == 2 {
-        return Call::ByPort(Access::Swap(mask, compare, x), m, port, line);
+    if kind < 3 {
+        return Call::ByPort(access_of(kind, mask, compare, x), m, port, line);
     }
     if kind == 3 {
         return Call::Flush(port, line);

@@ -16,7 +16,7 @@ use Rattle.words.specs.declared.access.Access.{Access}
 use Rattle.words.specs.declared.access.Access.the-variants.{Read, Write, Swap}
 use Rattle.words.specs.Bools.{bit}
 use Rattle.words.specs.Word.{half}
-use Rattle.words.specs.Access.{effectAt, writes}
+use Rattle.words.specs.Access.{effectAt, writes, isWrite}
 use Rattle.words.proofs.Bools.{Is, by-bool}
 use Rattle.words.proofs.Effects.{read-effect, write-effect, swap-succeeds, swap-fails}
 use Rattle.model.specs.declared.shape.Shape.{Shape}
@@ -25,7 +25,7 @@ use Rattle.model.specs.declared.order.Decoded.{Decoded}
 use Rattle.model.specs.declared.order.Decoded.the-variants.{Asked, Refused}
 use Rattle.model.specs.Order.{Order, decode}
 use Rattle.model.specs.Flat.{Flat, FlatResult, wordIn, markIn, flatAccess, flatPerform, flatStep}
-use Rattle.model.specs.Marks.{Event, sets, clears, neither, isWrite, eventOf, eventsOf, flatRun, SetSince, startEvent, MarkSays}
+use Rattle.model.specs.Marks.{Event, sets, clears, neither, eventOf, eventsOf, flatRun, SetSince, startEvent, MarkSays}
 use Rattle.model.proofs.Moved.{Moved, access-moves}
 
 -- What an event does to a mark, and a list of events.
@@ -42,7 +42,7 @@ fold old (e ∷ es) = fold (moved e old) es
 swapped-writes : (acc : Access) (w : ℕ) → writes (effectAt acc w .outcome) ≡ (isWrite acc || eqb (bit (effectAt acc w .swapped)) 1)
 swapped-writes Read w = rw (read-effect w)
 swapped-writes (Write mask x) w = rw (write-effect mask x w)
-swapped-writes (Swap mask compare x) w =
+swapped-writes (Swap mask x compare) w =
     by-bool (eqb (half mask w) compare) (λ h. rw (swap-succeeds mask compare x w h)) (λ h. rw (swap-fails mask compare x w h))
 
 set-or : (b old : Bool) → (b || old) ≡ moved (cond b sets neither) old

@@ -69,7 +69,7 @@ module _ (f : Flat) (m : Mode) (a : ℕ) where
   unfolding flatAccess
   access-moves Read = rw (read-effect (wordIn f a)) (read-moves _ _ refl refl refl)
   access-moves (Write mask x) = rw (write-effect mask x (wordIn f a)) (write-moves _ _ _ refl refl refl)
-  access-moves (Swap mask compare x) =
+  access-moves (Swap mask x compare) =
       by-bool (eqb (half mask (wordIn f a)) compare)
       (λ h. rw (swap-succeeds mask compare x (wordIn f a) h, h) (write-moves _ _ _ refl refl refl))
       (λ h. rw (swap-fails mask compare x (wordIn f a) h, not-true (eqb (half mask (wordIn f a)) compare) h) (read-moves _ _ refl refl refl))

@@ -56,7 +56,7 @@ flatWrite f m a w = record { words = set (f .words) a w; marks = set (f .marks) 
 unfoldable pub flatAccess : Flat → Access → Mode → ℕ → FlatResult
 flatAccess f Read m a = flatResult (flatAnswer 0 (wordIn f a) 0 true) (flatRead f m a)
 flatAccess f (Write mask x) m a = flatResult (flatAnswer 0 0 0 true) (flatWrite f m a (merge mask (wordIn f a) x))
-flatAccess f (Swap mask compare x) m a =
+flatAccess f (Swap mask x compare) m a =
     cond (eqb (half mask (wordIn f a)) compare)
     (flatResult (flatAnswer 0 (wordIn f a) 1 true) (flatWrite f m a (merge mask (wordIn f a) x)))
     (flatResult (flatAnswer 0 (wordIn f a) 0 true) (flatRead f m a))

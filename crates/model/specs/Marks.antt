@@ -8,8 +8,7 @@ use mathlib.Core.List.{List, [], _∷_}
 use lib.ListN.{getD, length}
 use lib.Dec.{eqb}
 use Rattle.protocol.specs.declared.state.Mode.the-variants.{Through, Back}
-use Rattle.words.specs.declared.access.Access.{Access}
-use Rattle.words.specs.declared.access.Access.the-variants.{Read, Write, Swap}
+use Rattle.words.specs.Access.{isWrite}
 use Rattle.model.specs.declared.shape.Shape.{Shape}
 use Rattle.model.specs.declared.order.Call.the-variants.{ByPort, Flush, DeviceRead}
 use Rattle.model.specs.declared.order.Decoded.{Decoded}
@@ -24,11 +23,6 @@ use Rattle.model.specs.Flat.{Flat, wordIn, markIn, flatStep, flatStart}
 -- write-through read, write or compare-and-swap of it; or neither, as a flush or a device read.
 pub data Event : Type 0 where
   sets clears neither : Event
-
-abbrev pub isWrite : Access → Bool
-isWrite Read = false
-isWrite (Write mask x) = true
-isWrite (Swap mask compare x) = false
 
 -- Of an order that was taken apart, and whose swapped number is n.
 unfoldable pub eventOf : ℕ → Decoded → ℕ → Event

@@ -42,7 +42,7 @@ unfoldable pub callOf : ℕ → Mode → ℕ → ℕ → ℕ → ℕ → ℕ →
 callOf kind m port mask line compare x =
     cond (eqb kind 0) (ByPort Read m port line)
     (cond (eqb kind 1) (ByPort (Write mask x) m port line)
-    (cond (eqb kind 2) (ByPort (Swap mask compare x) m port line)
+    (cond (eqb kind 2) (ByPort (Swap mask x compare) m port line)
     (cond (eqb kind 3) (Flush port line)
     (DeviceRead line))))
 

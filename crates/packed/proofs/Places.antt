@@ -47,7 +47,7 @@ module _ {l : Line} {g h d : List ℕ} (v : Packed l g h d) where
       (set-numbers 8 (size l) k (e .word) d q (omega arith) (omega (arith, v .words-fit))))
 
 pub repacked : {l : Line} {g h d g' h' d' : List ℕ} → Packed l g h d → length g' ≡ length g → length h' ≡ length h → length d' ≡ length d → Packed l g' h' d'
-repacked v a b c = record { tags-fit = a ∙ v .tags-fit; states-fit = b ∙ v .states-fit; words-fit = c ∙ v .words-fit; index = v .index }
+repacked v a b c = record { tags-fit = a ∙ v .tags-fit; states-fit = b ∙ v .states-fit; words-fit = c ∙ v .words-fit; few = v .few; index = v .index; there = v .there }
 
 pub word-is : {l : Line} {g h d : List ℕ} → Packed l g h d → {k : ℕ} → k < size l → {x : ℕ} → x ≡ wordIn d k → x ≡ getD (numbers 8 (size l) d) k 0
 word-is {l} {d = d} v {k} q e = e ∙ sym (get-numbers 8 (size l) k d q)

@@ -1,18 +1,19 @@
-// The bus: each other port answers a command from its own part of the three tables.
+// The bus: each other holder of a line answers a command from its own part of the three tables.
 use crate::entry;
 use ports::bus;
 use ports::bus::Command;
-use ports::choose;
 use ports::line::Line;
 use protocol::rules;
-use protocol::state;
 ghost use mathlib.Core.Path.{_≡_};
-ghost use mathlib.Core.Bool.{cond};
+ghost use mathlib.Core.Bool.{not};
+ghost use lib.Dec.{eqb};
 ghost use Prim.Native.Nat.{_+_, _<_};
-ghost use Rattle.ports.specs.Bus.{answerAt, answered, asked};
-ghost use Rattle.packed.specs.Packed.{size, tablesIn, Packed, Room, statesAnswered, wordsAnswered};
+ghost use Rattle.endian.specs.Little.{numbers};
+ghost use Rattle.ports.specs.Bus.{answerAt, answered, asked, commandOf};
+ghost use Rattle.packed.specs.Packed.{size, tablesIn, Packed, Room, Holder, statesAnswered, wordsAnswered};
+ghost use Rattle.packed.specs.Masks.{maskFrom, otherIn, Sound};
 
-// A port's answer, from its own part of the tables; w is the line's new word.
+// A holder's answer, from its own part of the tables; w is the line's new word.
 fn answer(
     tags: &mut [u8],
     states: &mut [u8],
@@ -23,72 +24,73 @@ fn answer(
     w: u64,
 )
     requires { ⌜ Room (now tags) (now states) (now words) index ⌝ }
+    requires { ⌜ Holder tag (now tags) (now states) index ⌝ }
     ensures { λ r. ⌜ now (tags .exit) ≡ now (tags .entry) ⌝ }
-    ensures { λ r. ⌜ now (states .exit) ≡ statesAnswered c tag w index (now (tags .entry)) (now (states .entry)) (now (words .entry)) ⌝ }
-    ensures { λ r. ⌜ now (words .exit) ≡ wordsAnswered c tag w index (now (tags .entry)) (now (states .entry)) (now (words .entry)) ⌝ }
+    ensures { λ r. ⌜ now (states .exit) ≡ statesAnswered c index (now (states .entry)) ⌝ }
+    ensures { λ r. ⌜ now (words .exit) ≡ wordsAnswered c w index (now (words .entry)) ⌝ }
 {
-    let here = entry::tag_at(tags, index) == tag;
-    let b = states[index];
-    let x = entry::word_at(words, index);
-    let valid = state::is_valid(state::byte_state(b));
-    let next = rules::nibble(c.row, b);
-    states[index] = choose::choose_byte(here, next, b);
-    entry::put_word(
-        words,
-        index,
-        choose::choose_word(here & valid & c.hands, w, x),
-    );
+    let next = rules::nibble(c.row, states[index]);
+    states[index] = next;
+    if c.hands {
+        entry::put_word(words, index, w);
+    }
 }
 
-// The same where the port is another than the asking one; its part starts at entry from.
+// The same in the whole tables; the port's part starts at entry from.
 fn answer_from(
     tags: &mut [u8],
     states: &mut [u8],
     words: &mut [u8],
     line: Line,
     from: usize,
-    other: bool,
     c: Command,
     w: u64,
 )
     requires { ⌜ Packed line (now tags) (now states) (now words) ⌝ }
     requires { ⌜ from + line .index < size line ⌝ }
-    ensures { λ r. ⌜ tablesIn line (now (tags .exit)) (now (states .exit)) (now (words .exit)) ≡ cond other (answerAt c (line .tag) w (from + line .index) (tablesIn line (now (tags .entry)) (now (states .entry)) (now (words .entry)))) (tablesIn line (now (tags .entry)) (now (states .entry)) (now (words .entry))) ⌝ }
+    requires { ⌜ Holder (line .tag) (now tags) (now states) (from + line .index) ⌝ }
+    ensures { λ r. ⌜ tablesIn line (now (tags .exit)) (now (states .exit)) (now (words .exit)) ≡ answerAt c (line .tag) w (from + line .index) (tablesIn line (now (tags .entry)) (now (states .entry)) (now (words .entry))) ⌝ }
 {
-    if other {
-        let tags_from = 4 * from;
-        let words_from = 8 * from;
-        answer(
-            &mut tags[tags_from..],
-            &mut states[from..],
-            &mut words[words_from..],
-            line.index,
-            line.tag,
-            c,
-            w,
-        );
-    }
+    let tags_from = 4 * from;
+    let words_from = 8 * from;
+    answer(
+        &mut tags[tags_from..],
+        &mut states[from..],
+        &mut words[words_from..],
+        line.index,
+        line.tag,
+        c,
+        w,
+    );
 }
 
-// Every port but i answers.
+// Every port of the mask answers command number bus; the mask has the holders but i.
 fn broadcast(
     tags: &mut [u8],
     states: &mut [u8],
     words: &mut [u8],
     line: Line,
     i: usize,
-    c: Command,
+    others: u64,
+    bus: u8,
     w: u64,
 )
     requires { ⌜ Packed line (now tags) (now states) (now words) ⌝ }
-    ensures { λ r. ⌜ tablesIn line (now (tags .exit)) (now (states .exit)) (now (words .exit)) ≡ answered line c w i (tablesIn line (now (tags .entry)) (now (states .entry)) (now (words .entry))) (line .ports) ⌝ }
+    requires { ⌜ Sound line (now states) ⌝ }
+    requires { ⌜ others ≡ maskFrom (otherIn line (numbers 4 (size line) (now tags)) (now states) i) 0 (line .ports) ⌝ }
+    requires { ⌜ bus < 7 ⌝ }
+    ensures { λ r. ⌜ tablesIn line (now (tags .exit)) (now (states .exit)) (now (words .exit)) ≡ answered line (commandOf bus) w i (tablesIn line (now (tags .entry)) (now (states .entry)) (now (words .entry))) (line .ports) ⌝ }
 {
-    let ports = line.ports;
+    let c = bus::command_of(bus);
     let sets = line.sets;
-    let mut p = 0;
-    while p < ports {
-        answer_from(tags, states, words, line, p * sets, p != i, c, w);
-        p += 1;
+    let mut rest = others;
+    let mut p = 0usize;
+    while rest != 0 {
+        let skipped = u64::trailing_zeros(rest);
+        let q = p + skipped as usize;
+        answer_from(tags, states, words, line, q * sets, c, w);
+        rest = (rest >> skipped) / 2;
+        p = q + 1;
     }
 }
 
@@ -99,15 +101,17 @@ pub fn ask(
     words: &mut [u8],
     line: Line,
     i: usize,
-    shared: bool,
+    others: u64,
     bus: u8,
     w: u64,
 )
     requires { ⌜ Packed line (now tags) (now states) (now words) ⌝ }
+    requires { ⌜ Sound line (now states) ⌝ }
+    requires { ⌜ others ≡ maskFrom (otherIn line (numbers 4 (size line) (now tags)) (now states) i) 0 (line .ports) ⌝ }
     requires { ⌜ bus < 7 ⌝ }
-    ensures { λ r. ⌜ tablesIn line (now (tags .exit)) (now (states .exit)) (now (words .exit)) ≡ asked line shared bus w i (tablesIn line (now (tags .entry)) (now (states .entry)) (now (words .entry))) ⌝ }
+    ensures { λ r. ⌜ tablesIn line (now (tags .exit)) (now (states .exit)) (now (words .exit)) ≡ asked line (not (eqb others 0)) bus w i (tablesIn line (now (tags .entry)) (now (states .entry)) (now (words .entry))) ⌝ }
 {
-    if shared & (bus != 0) {
-        broadcast(tags, states, words, line, i, bus::command_of(bus), w);
+    if (others != 0) & (bus != 0) {
+        broadcast(tags, states, words, line, i, others, bus, w);
     }
 }

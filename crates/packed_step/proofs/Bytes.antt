@@ -1,10 +1,11 @@
 -- Lent bytes against the model that they hold. Assumes nothing.
-use Prim.Native.Nat.{ℕ, _+_, _*_, _^_, _<_, _≤_}
+use Prim.Native.Nat.{ℕ, _+_, _*_, _/_, _%_, _^_, _<_, _≤_}
 use mathlib.Core.Path.{_≡_, sym, _∙_}
 use mathlib.Core.Bool.{Bool, true}
 use mathlib.Core.List.{List}
 use native.Mathlib.Omega.{arith}
-use native.Mathlib.Nat.{mod-lt}
+use native.Mathlib.Nat.{mod-lt, div-add-mod'}
+use borrow.Author.Tests.{ltb-true, lt-ltb}
 use lib.ListN.{length}
 use lib.Seq.{sets}
 use Rattle.endian.specs.Little.{numbers, bytesOf}
@@ -13,6 +14,7 @@ use Rattle.model.specs.declared.shape.Shape.{Shape}
 use Rattle.model.specs.Shape.{entries}
 use Rattle.model.specs.Tables.{lentRefusal, memoryAt}
 use Rattle.model.specs.Step.{store}
+use Rattle.model.proofs.Bounds.{bounded, limit-is}
 use Rattle.model.proofs.Lent.{facts-lent, some-sets}
 use Rattle.ports.specs.declared.line.Line.{Line}
 use Rattle.ports.specs.Line.{lineOf}
@@ -31,9 +33,18 @@ module _ {s : Shape} {b : Bytes} (f : Fitting s b) where
   lent = facts-lent s (modelIn s b) (record { range = f .range; sizes = record { memory = length-numbers 8 (s .lines) (b .memory); tags = length-numbers 4 (entries s) (b .tags); states = f .filled .states-fit; words = length-numbers 8 (entries s) (b .words) } })
 
   -- The tables of a line are packed in the bytes.
-  pub packed : (a : ℕ) {l : Line} → l ≡ lineOf s a → Packed l (b .tags) (b .states) (b .words)
+  pub packed : (a : ℕ) → a < s .lines → {l : Line} → l ≡ lineOf s a → Packed l (b .tags) (b .states) (b .words)
   unfolding lineOf
-  packed a e = rw e (record { tags-fit = f .filled .tags-fit; states-fit = f .filled .states-fit; words-fit = f .filled .words-fit; index = mod-lt a (some-sets s (f .range)) })
+  packed a h e =
+      let inside = mod-lt a (some-sets s (f .range)) in
+      rw e (record {
+        tags-fit = f .filled .tags-fit;
+        states-fit = f .filled .states-fit;
+        words-fit = f .filled .words-fit;
+        few = bounded s (f .range) .ports;
+        index = inside;
+        there = ltb-true _ _ (sym (limit-is (a / s .sets) (s .sets) (a % s .sets) (s .lines) inside) ∙ rw (div-add-mod' a (s .sets)) (lt-ltb a (s .lines) h));
+      })
 
   pub in-memory : {a : ℕ} → a < s .lines → 8 * a + 8 ≤ length (b .memory)
   in-memory h = omega (arith, f .memory-fits)

@@ -76,7 +76,7 @@ answering-none l c w i t a b = record { below = omega arith; states = a; words =
 
 module _ (l : Line) (c : Command) (w i : ℕ) (t : Tables) (inside : l .index < l .sets) (p : ℕ) where
   -- The entry of port p is as it was before the first p ports answered.
-  still : (f : ℕ → ℕ) (xs : List ℕ) → getD (putBelow (numberOf l) f p xs) (numberOf l p) 0 ≡ getD xs (numberOf l p) 0
+  pub still : (f : ℕ → ℕ) (xs : List ℕ) → getD (putBelow (numberOf l) f p xs) (numberOf l p) 0 ≡ getD xs (numberOf l p) 0
   still f xs = putBelow-other (numberOf l) f p xs (numberOf l p) (λ q h e. apart q h (number-inj l inside p q e))
     where
       apart : (q : ℕ) → q < p → p ≡ q → ⊥

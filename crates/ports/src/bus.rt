@@ -1,8 +1,8 @@
 // The bus: each other port answers a command from its own part of the three tables.
-use crate::choose;
 use crate::line::Line;
 use protocol::rules;
 use protocol::state;
+use words::choose;
 ghost use mathlib.Core.Path.{_≡_};
 ghost use mathlib.Core.Bool.{cond};
 ghost use Prim.Native.Nat.{_+_, _<_};

@@ -1,7 +1,7 @@
 // One look at every port's entry for a line.
-use crate::choose;
 use crate::line::Line;
 use protocol::state;
+use words::choose;
 ghost use mathlib.Core.Path.{_≡_};
 ghost use Prim.Native.Nat.{_<_};
 ghost use lib.ListN.{getD, length};

@@ -1,16 +1,17 @@
 -- What an access does at a word, case by case: how the crates above use `effectAt`. Assumes nothing.
 use Prim.Native.Nat.{ℕ}
 use mathlib.Core.Path.{_≡_, refl}
-use mathlib.Core.Bool.{true, false, not, false≢true}
+use mathlib.Core.Bool.{Bool, true, false, cond, _&&_, _||_, not, false≢true}
 use lib.Dec.{eqb}
 use borrow.Author.Tests.{not-true}
 use Rattle.words.specs.declared.access.Access.{Access}
 use Rattle.words.specs.declared.access.Access.the-variants.{Read, Write, Swap}
+use Rattle.words.specs.declared.access.Outcome.{Outcome}
 use Rattle.words.specs.declared.access.Outcome.the-variants.{Reads, Fails, Writes}
 use Rattle.words.specs.declared.access.Effect.{Effect}
 use Rattle.words.specs.Word.{merge, half}
-use Rattle.words.specs.Access.{effect, effectAt, writes}
-use Rattle.words.proofs.Bools.{Is, by-cond}
+use Rattle.words.specs.Access.{effect, effectAt, writes, isWrite, isSwap, maskOf, operandOf, compareOf, outcomeOf}
+use Rattle.words.proofs.Bools.{Is, by-bool, by-cond}
 
 pub read-effect : (w : ℕ) → effectAt Read w ≡ effect Reads w w false
 unfolding effectAt
@@ -21,11 +22,11 @@ unfolding effectAt
 write-effect mask x w = refl
 
 -- A swap succeeds where the half compared is equal, and fails where it is not.
-pub swap-succeeds : (mask compare x w : ℕ) → Is (eqb (half mask w) compare) → effectAt (Swap mask compare x) w ≡ effect Writes (merge mask w x) w true
+pub swap-succeeds : (mask compare x w : ℕ) → Is (eqb (half mask w) compare) → effectAt (Swap mask x compare) w ≡ effect Writes (merge mask w x) w true
 unfolding effectAt
 swap-succeeds mask compare x w h = rw h
 
-pub swap-fails : (mask compare x w : ℕ) → Is (not (eqb (half mask w) compare)) → effectAt (Swap mask compare x) w ≡ effect Fails w w false
+pub swap-fails : (mask compare x w : ℕ) → Is (not (eqb (half mask w) compare)) → effectAt (Swap mask x compare) w ≡ effect Fails w w false
 unfolding effectAt
 swap-fails mask compare x w h = rw (not-true (eqb (half mask w) compare) h)
 
@@ -34,6 +35,21 @@ pub unwritten : (acc : Access) (w : ℕ) → Is (not (writes (effectAt acc w .ou
 unfolding effectAt
 unwritten Read w h = refl
 unwritten (Write mask x) w h = absurd (false≢true h)
-unwritten (Swap mask compare x) w h =
+unwritten (Swap mask x compare) w h =
     by-cond (λ (e : Effect). Is (not (writes (e .outcome))) → e .word ≡ w) (eqb (half mask w) compare)
     (effect Writes (merge mask w x) w true) (effect Fails w w false) (λ _ h. absurd (false≢true h)) (λ _ _. refl) h
+
+-- An effect put together from what is asked of the access, one by one.
+together : (a : Access) (w : ℕ)
+    → let swapped = isSwap a && eqb (half (maskOf a) w) (compareOf a) in
+    effect (outcomeOf (isWrite a || swapped) (isSwap a)) (cond (isWrite a || swapped) (merge (maskOf a) w (operandOf a)) w) (cond (isWrite a) 0 w) swapped ≡ effectAt a w
+unfolding effectAt
+together Read w = refl
+together (Write mask x) w = refl
+together (Swap mask x compare) w = by-bool (eqb (half mask w) compare) (λ h. rw h) (λ h. rw (not-true (eqb (half mask w) compare) h))
+
+pub effect-is : (a : Access) (w : ℕ) {mask half' compare operand full word value : ℕ} {write swap : Bool} {o : Outcome}
+    → mask ≡ maskOf a → write ≡ isWrite a → swap ≡ isSwap a → half' ≡ half mask w → compare ≡ compareOf a → operand ≡ operandOf a → full ≡ merge mask w operand
+    → o ≡ outcomeOf (write || (swap && eqb half' compare)) swap → word ≡ cond (write || (swap && eqb half' compare)) full w → value ≡ cond write 0 w
+    → effect o word value (swap && eqb half' compare) ≡ effectAt a w
+effect-is a w p1 p2 p3 p4 p5 p6 p7 p8 p9 p10 = rw (p10, p9, p8, p7, p6, p5, p4, p3, p2, p1) (together a w)

@@ -16,10 +16,40 @@ effect o w v s = record { outcome = o; word = w; value = v; swapped = s }
 unfoldable pub effectAt : Access → ℕ → Effect
 effectAt Read w = effect Reads w w false
 effectAt (Write mask x) w = effect Writes (merge mask w x) 0 false
-effectAt (Swap mask compare x) w = cond (eqb (half mask w) compare) (effect Writes (merge mask w x) w true) (effect Fails w w false)
+effectAt (Swap mask x compare) w = cond (eqb (half mask w) compare) (effect Writes (merge mask w x) w true) (effect Fails w w false)
 
 -- A write, or a swap that succeeds.
 abbrev pub writes : Outcome → Bool
 writes Reads = false
 writes Fails = false
 writes Writes = true
+
+-- What the code asks of an access, one by one. A read has the full mask and an operand and a compare value of 0: nothing comes of them.
+abbrev pub isWrite : Access → Bool
+isWrite Read = false
+isWrite (Write mask x) = true
+isWrite (Swap mask x compare) = false
+
+abbrev pub isSwap : Access → Bool
+isSwap Read = false
+isSwap (Write mask x) = false
+isSwap (Swap mask x compare) = true
+
+abbrev pub maskOf : Access → ℕ
+maskOf Read = 0xFF
+maskOf (Write mask x) = mask
+maskOf (Swap mask x compare) = mask
+
+abbrev pub operandOf : Access → ℕ
+operandOf Read = 0
+operandOf (Write mask x) = x
+operandOf (Swap mask x compare) = x
+
+abbrev pub compareOf : Access → ℕ
+compareOf Read = 0
+compareOf (Write mask x) = 0
+compareOf (Swap mask x compare) = compare
+
+-- The outcome by whether the access writes and whether it is a swap.
+abbrev pub outcomeOf : Bool → Bool → Outcome
+outcomeOf writes swap = cond writes Writes (cond swap Fails Reads)

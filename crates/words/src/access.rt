@@ -1,9 +1,10 @@
 // Accesses of a port to a line, and what each does at the word that it finds.
+use crate::choose;
 use crate::word;
 ghost use mathlib.Core.Path.{_≡_};
-ghost use Rattle.words.specs.Access.{effectAt};
+ghost use Rattle.words.specs.Access.{effectAt, isWrite, isSwap, maskOf, operandOf, compareOf, outcomeOf};
 
-// A write's mask and operand; a compare-and-swap's mask, compare value and operand.
+// A write's mask and operand; a compare-and-swap's mask, operand and compare value.
 pub enum Access {
     Read,
     Write(u8, u64),
@@ -25,37 +26,84 @@ pub struct Effect {
     pub swapped: bool,
 }
 
+fn is_write(a: Access) -> bool
+    ensures { λ r. ⌜ r ≡ isWrite a ⌝ }
+{
+    match a {
+        Access::Read => false,
+        Access::Write(_, _) => true,
+        Access::Swap(_, _, _) => false,
+    }
+}
+
+fn is_swap(a: Access) -> bool
+    ensures { λ r. ⌜ r ≡ isSwap a ⌝ }
+{
+    match a {
+        Access::Read => false,
+        Access::Write(_, _) => false,
+        Access::Swap(_, _, _) => true,
+    }
+}
+
+// The mask and the operand to merge by. A read merges nothing: it has the full mask, at which a merge is short.
+fn mask_of(a: Access) -> u8
+    ensures { λ r. ⌜ r ≡ maskOf a ⌝ }
+{
+    match a {
+        Access::Read => 0xFF,
+        Access::Write(mask, _) => mask,
+        Access::Swap(mask, _, _) => mask,
+    }
+}
+
+fn operand_of(a: Access) -> u64
+    ensures { λ r. ⌜ r ≡ operandOf a ⌝ }
+{
+    match a {
+        Access::Read => 0,
+        Access::Write(_, x) => x,
+        Access::Swap(_, x, _) => x,
+    }
+}
+
+fn compare_of(a: Access) -> u64
+    ensures { λ r. ⌜ r ≡ compareOf a ⌝ }
+{
+    match a {
+        Access::Read => 0,
+        Access::Write(_, _) => 0,
+        Access::Swap(_, _, compare) => compare,
+    }
+}
+
+// The outcome of an access that writes or doesn't, and is a swap or isn't.
+fn outcome_of(writes: bool, swap: bool) -> Outcome
+    ensures { λ r. ⌜ r ≡ outcomeOf writes swap ⌝ }
+{
+    if writes {
+        return Outcome::Writes;
+    }
+    if swap {
+        return Outcome::Fails;
+    }
+    Outcome::Reads
+}
+
+// What an access does at the word w. No branch depends on the access: the kinds of an order follow no pattern.
 pub fn effect_at(a: Access, w: u64) -> Effect
     ensures { λ r. ⌜ r ≡ effectAt a w ⌝ }
 {
-    match a {
-        Access::Read => Effect {
-            outcome: Outcome::Reads,
-            word: w,
-            value: w,
-            swapped: false,
-        },
-        Access::Write(mask, x) => Effect {
-            outcome: Outcome::Writes,
-            word: word::merged(mask, w, x),
-            value: 0,
-            swapped: false,
-        },
-        Access::Swap(mask, compare, x) => {
-            if word::half_of(mask, w) == compare {
-                return Effect {
-                    outcome: Outcome::Writes,
-                    word: word::merged(mask, w, x),
-                    value: w,
-                    swapped: true,
-                };
-            }
-            Effect {
-                outcome: Outcome::Fails,
-                word: w,
-                value: w,
-                swapped: false,
-            }
-        }
+    let mask = mask_of(a);
+    let write = is_write(a);
+    let swap = is_swap(a);
+    let swapped = swap & (word::half_of(mask, w) == compare_of(a));
+    let writes = write | swapped;
+    let full = word::merged(mask, w, operand_of(a));
+    Effect {
+        outcome: outcome_of(writes, swap),
+        word: choose::choose_word(writes, full, w),
+        value: choose::choose_word(write, 0, w),
+        swapped,
     }
 }

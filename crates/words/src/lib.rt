@@ -1,3 +1,4 @@
 // Words and what an access does at the word that it finds, on values alone.
 pub mod access;
+pub mod choose;
 pub mod word;

@@ -16,7 +16,7 @@ word-at-requires : tie.Need-word-at-requires
 word-at-requires c κs = in-memory (c .before .before .before .before .before .before .pre .0) (c .before .before .before .before .before .before .pre .1 .1)
 
 access-line-requires : tie.Need-access-line-requires
-access-line-requires c κs = (packed (c .before .before .before .before .before .before .before .before .before .before .pre .0) (c .before .before .before .before .before .before .before .before .before .before .args .a) (c .before .before .before .before .before .line-of .ensures), port-there _ _ (lent (c .before .before .before .before .before .before .before .before .before .before .pre .0)) (c .before .before .before .before .before .before .before .before .before .before .args .i) (c .before .before .before .before .before .before .before .before .before .before .args .a) (c .before .before .before .before .before .line-of .ensures) (c .before .before .before .before .before .before .before .before .before .before .pre .1 .0))
+access-line-requires c κs = (packed (c .before .before .before .before .before .before .before .before .before .before .pre .0) (c .before .before .before .before .before .before .before .before .before .before .args .a) (c .before .before .before .before .before .before .before .before .before .before .pre .1 .1) (c .before .before .before .before .before .line-of .ensures), port-there _ _ (lent (c .before .before .before .before .before .before .before .before .before .before .pre .0)) (c .before .before .before .before .before .before .before .before .before .before .args .i) (c .before .before .before .before .before .before .before .before .before .before .args .a) (c .before .before .before .before .before .line-of .ensures) (c .before .before .before .before .before .before .before .before .before .before .pre .1 .0))
 
 returns : tie.Need-returns
 unfolding modelIn lineOf

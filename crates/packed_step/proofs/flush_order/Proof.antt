@@ -13,7 +13,7 @@ line-of-requires : tie.Need-line-of-requires
 line-of-requires c κs = ((c .before .before .before .before .pre .0 .range), (c .before .before .before .before .pre .1 .1))
 
 flush-line-requires : tie.Need-flush-line-requires
-flush-line-requires c κs = (packed (c .before .before .before .before .before .before .pre .0) (c .before .before .before .before .before .before .args .a) (c .before .line-of .ensures), port-there _ _ (lent (c .before .before .before .before .before .before .pre .0)) (c .before .before .before .before .before .before .args .i) (c .before .before .before .before .before .before .args .a) (c .before .line-of .ensures) (c .before .before .before .before .before .before .pre .1 .0))
+flush-line-requires c κs = (packed (c .before .before .before .before .before .before .pre .0) (c .before .before .before .before .before .before .args .a) (c .before .before .before .before .before .before .pre .1 .1) (c .before .line-of .ensures), port-there _ _ (lent (c .before .before .before .before .before .before .pre .0)) (c .before .before .before .before .before .before .args .i) (c .before .before .before .before .before .before .args .a) (c .before .line-of .ensures) (c .before .before .before .before .before .before .pre .1 .0))
 
 returns : tie.Need-returns
 unfolding modelIn lineOf

@@ -1,18 +1,14 @@
 -- The decision is `decideOf`, on values. Assumes nothing.
 use borrow.Author.Needs.{needs}
-use lib.Dec.{eqb}
-use mathlib.Core.Bool.{_&&_}
 use Rattle.caches.proofs.Decided.{decide-is, chosen-state}
 use Rattle.caches.proofs.access.decide.Statement.{statement}
 use Rattle.caches.proofs.access.decide.Tie as tie
 
 own-rule-requires : tie.Need-own-rule-requires
-own-rule-requires c κs = chosen-state (eqb (c .before .before .before .before .before .before .before .args .e .tag) (c .before .before .before .before .before .before .before .args .tag) && c .before .before .before .before .is-valid .result) _ (c .choose-byte .ensures) (c .before .before .before .before .before .before .before .pre)
+own-rule-requires c κs = chosen-state (c .before .before .args .hit) _ (c .choose-byte .ensures) (c .before .before .pre)
 
 returns : tie.Need-returns
-returns c =
-    decide-is _ _ _ _ _ _ _ (c .before .before .before .before .before .before .before .before .before .byte-state .ensures) (c .before .before .before .before .before .before .before .is-valid .ensures) (c .before .before .before .before .before .before .choose-word .ensures) (c .before .before .before .before .before .choose-word2 .ensures) (c .before .before .before .before .effect-at .ensures)
-    (c .before .before .before .choose-byte .ensures) (c .before .before .own-rule .ensures) (c .is-owner .ensures)
+returns c = decide-is _ _ _ _ _ _ _ (c .before .before .before .before .effect-at .ensures) (c .before .before .before .choose-byte .ensures) (c .before .before .own-rule .ensures) (c .before .byte-state .ensures) (c .is-owner .ensures)
 
 pub decide-spec : {M : Type 1} → statement M
 decide-spec =
@@ -20,10 +16,7 @@ decide-spec =
     (tie.spec
     (λ c κs. search needs)
     (λ c κs. search needs)
-    (λ c κs. search needs)
-    (λ c κs. search needs)
-    (λ c κs. search needs)
-    (λ c κs. search needs)
     own-rule-requires
+    (λ c κs. search needs)
     (λ c κs. search needs)
     returns)

@@ -3,12 +3,12 @@ use borrow.Author.Needs.{needs}
 use native.Mathlib.Omega.{arith}
 use Rattle.ports.proofs.Places.{in-one, in-two}
 use Rattle.ports.proofs.Answers.{within}
-use Rattle.caches.proofs.Decided.{flush-unsound, flush-away, flush-held}
+use Rattle.caches.proofs.Decided.{flush-unsound, flush-away, flush-held, survey-column, hit-is, own-is, entry-word}
 use Rattle.caches.proofs.access.flush_line.Statement.{statement}
 use Rattle.caches.proofs.access.flush_line.Tie as tie
 
 returns : tie.Need-returns
-returns c = flush-unsound _ _ _ (c .before .before .survey-ports .ensures) (c .if1 .taken)
+returns c = flush-unsound _ _ _ (survey-column _ _ _ (c .before .before .survey-ports .ensures)) (c .if1 .taken)
 
 mul-k : tie.Need-mul-k
 mul-k c = omega (arith, in-one (c .before .before .before .before .before .before .before .pre .0) (c .before .before .before .before .before .before .before .args .i) (c .before .before .before .before .before .before .before .pre .1 .1))
@@ -23,10 +23,19 @@ slice-write-states : tie.Need-slice-write-states
 slice-write-states c = in-two (c .before .before .before .before .before .before .before .before .before .before .before .before .before .before .before .pre .0) (c .before .before .before .before .before .before .before .before .before .before .before .before .before .before .before .args .i) (c .before .before .before .before .before .before .before .before .before .before .before .before .before .before .before .pre .1 .1)
 
 returns-2 : tie.Need-returns-2
-returns-2 c = flush-held _ _ _ (c .before .before .before .before .before .before .before .before .before .before .before .survey-ports .ensures) (c .before .before .before .before .before .before .before .before .before .if1 .left) (c .before .before .before .before .before .before .entry-at .ensures) (c .before .before .before .before .before .byte-state .ensures) (c .before .before .is-valid .ensures) (c .before .if2 .taken) (c .before .before .before .before .before .before .before .before .before .before .before .before .before .before .before .before .pre .0 .index) (c .before .before .before .before .before .before .before .before .before .before .before .before .before .before .before .before .pre .1 .1) (c .is-owner .ensures)
+returns-2 c =
+    let e = c .before .before .before .before .before .before .entry-at .ensures in
+    let y = c .before .before .before .before .before .byte-state .ensures in
+    let v = c .before .before .is-valid .ensures in
+    flush-held _ _ _ (survey-column _ _ _ (c .before .before .before .before .before .before .before .before .before .before .before .survey-ports .ensures)) (c .before .before .before .before .before .before .before .before .before .if1 .left) (hit-is _ _ _ e y v) (entry-word (c .before .before .before .before .before .before .before .before .before .before .before .before .before .before .before .before .args .line) _ _ e y v) (c .before .if2 .taken) (c .before .before .before .before .before .before .before .before .before .before .before .before .before .before .before .before .pre .0 .index) (c .before .before .before .before .before .before .before .before .before .before .before .before .before .before .before .before .pre .1 .1)
+    (own-is _ _ _ e y v (c .before .if2 .taken) (c .is-owner .ensures))
 
 returns-3 : tie.Need-returns-3
-returns-3 c = flush-away _ _ _ (c .before .before .before .before .before .before .before .before .before .before .survey-ports .ensures) (c .before .before .before .before .before .before .before .before .if1 .left) (c .before .before .before .before .before .entry-at .ensures) (c .before .before .before .before .byte-state .ensures) (c .before .is-valid .ensures) (c .if2 .left)
+returns-3 c =
+    let e = c .before .before .before .before .before .entry-at .ensures in
+    let y = c .before .before .before .before .byte-state .ensures in
+    let v = c .before .is-valid .ensures in
+    flush-away _ _ _ (survey-column _ _ _ (c .before .before .before .before .before .before .before .before .before .before .survey-ports .ensures)) (c .before .before .before .before .before .before .before .before .if1 .left) (hit-is _ _ _ e y v) (entry-word (c .before .before .before .before .before .before .before .before .before .before .before .before .before .before .before .args .line) _ _ e y v) (c .if2 .left)
 
 pub flush-line-spec : {M : Type 1} → statement M
 flush-line-spec =

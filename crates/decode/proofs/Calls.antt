@@ -1,0 +1,31 @@
+-- The call of a kind: an access below 3, else a flush or a device read. Assumes nothing.
+use Prim.Native.Nat.{ℕ, zero, suc, _<_, _≤_}
+use mathlib.Core.Path.{_≡_, refl}
+use mathlib.Core.Logic.{_≢_}
+use mathlib.Core.Bool.{false}
+use lib.Dec.{eqb}
+use native.Mathlib.Omega.{arith}
+use borrow.Author.Tests.{ne-eqb}
+use Rattle.protocol.specs.declared.state.Mode.{Mode}
+use Rattle.model.specs.declared.order.Call.the-variants.{ByPort, Flush, DeviceRead}
+use Rattle.model.specs.Order.{callOf}
+use Rattle.decode.specs.Order.{accessOf}
+
+module _ (m : Mode) (port mask line compare x : ℕ) where
+  pub call-access : (kind : ℕ) → kind < 3 → ByPort (accessOf kind mask compare x) m port line ≡ callOf kind m port mask line compare x
+  unfolding callOf accessOf
+  call-access zero h = refl
+  call-access (suc zero) h = refl
+  call-access (suc (suc zero)) h = refl
+  call-access (suc (suc (suc k))) h = absurd (omega arith)
+
+  pub call-flush : {kind : ℕ} → kind ≡ 3 → Flush port line ≡ callOf kind m port mask line compare x
+  unfolding callOf
+  call-flush e = rw e
+
+  pub call-device : {kind : ℕ} → 3 ≤ kind → kind ≢ 3 → DeviceRead line ≡ callOf kind m port mask line compare x
+  unfolding callOf
+  call-device {kind} h d = rw (apart 0 (omega arith), apart 1 (omega arith), apart 2 (omega arith), ne-eqb kind 3 d)
+    where
+      apart : (k : ℕ) → k < 3 → eqb kind k ≡ false
+      apart k l = ne-eqb kind k (λ e. absurd (omega arith))
