@@ -30,7 +30,7 @@ use Rattle.ports.specs.Bus.{answerAt, byteAnswered, wordAnswered, answered, com
 use Rattle.ports.proofs.Answers.{tables-eq, part-get, part-set, still, Answering, answering-none, answering-more}
 use Rattle.caches.proofs.Decided.{byte-replied, word-replied}
 use Rattle.packed.specs.Packed.{size, tablesIn, Packed, Holder, tagIn, statesAnswered, wordsAnswered}
-use Rattle.packed.specs.Masks.{maskFrom, otherIn, Sound}
+use Rattle.packed.specs.Masks.{portsFrom, otherIn, AllStates}
 use Rattle.packed.proofs.Places.{sized, sized-words, place, repacked}
 use Rattle.packed.proofs.Masks.{First, mask-half, mask-drop, mask-some, mask-first}
 
@@ -93,7 +93,7 @@ module _ {l : Line} {g h d : List ℕ} (v : Packed l g h d) (c : Command) (w fro
       words-part)
 
 -- A port that is no other holder answers with what it has.
-module _ (l : Line) (bus w i : ℕ) (t : Tables) (inside : l .index < l .sets) (sound : Sound l (t .states)) where
+module _ (l : Line) (bus w i : ℕ) (t : Tables) (inside : l .index < l .sets) (sound : AllStates l (t .states)) where
   abbrev other : ℕ → Bool
   other p = otherIn l (t .tags) (t .states) i p
 
@@ -129,16 +129,16 @@ pub record Telling (l : Line) (bus w i : ℕ) (g₀ h₀ d₀ g h d : List ℕ) 
   pub answers : Answering l (commandOf bus) w i (tablesIn l g₀ h₀ d₀) (tablesIn l g h d) p
   pub count : ℕ
   pub all : p + count ≡ l .ports
-  pub mask : rest ≡ maskFrom (otherIn l (numbers 4 (size l) g₀) h₀ i) p count
+  pub mask : rest ≡ portsFrom (otherIn l (numbers 4 (size l) g₀) h₀ i) p count
 
-module _ {l : Line} {g₀ h₀ d₀ : List ℕ} (bus w i : ℕ) (v₀ : Packed l g₀ h₀ d₀) (sound : Sound l h₀) where
+module _ {l : Line} {g₀ h₀ d₀ : List ℕ} (bus w i : ℕ) (v₀ : Packed l g₀ h₀ d₀) (sound : AllStates l h₀) where
   abbrev t₀ : Tables
   t₀ = tablesIn l g₀ h₀ d₀
 
   abbrev test : ℕ → Bool
   test p = otherIn l (numbers 4 (size l) g₀) h₀ i p
 
-  pub telling-none : {others : ℕ} → others ≡ maskFrom test 0 (l .ports) → Telling l bus w i g₀ h₀ d₀ g₀ h₀ d₀ others 0
+  pub telling-none : {others : ℕ} → others ≡ portsFrom test 0 (l .ports) → Telling l bus w i g₀ h₀ d₀ g₀ h₀ d₀ others 0
   telling-none e = record { packed = v₀; answers = answering-none l (commandOf bus) w i t₀ (sized v₀) (sized-words v₀); count = l .ports; all = omega arith; mask = e }
 
   module _ {g h d : List ℕ} {rest p : ℕ} (v : Telling l bus w i g₀ h₀ d₀ g h d rest p) where
@@ -192,12 +192,12 @@ module _ {l : Line} {g₀ h₀ d₀ : List ℕ} (bus w i : ℕ) (v₀ : Packed l
       telling-more {g'} {h'} {d'} eg eh ed ec e =
           let n : ℕ = v .count - z - 1 in
           let there : Answering l (commandOf bus) w i t₀ (tablesIn l g h d) (p + z) = record { below = omega (arith, next-below); states = v .answers .states; words = v .answers .words; now = reached } in
-          let m : rest / 2 ^ z ≡ maskFrom test (p + z) (suc n) = ap (λ (x : ℕ). x / 2 ^ z) (v .mask) ∙ mask-drop test p z (suc n) (omega (arith, first .below)) refl in
+          let m : rest / 2 ^ z ≡ portsFrom test (p + z) (suc n) = ap (λ (x : ℕ). x / 2 ^ z) (v .mask) ∙ mask-drop test p z (suc n) (omega (arith, first .below)) refl in
           let asks : not (eqb (p + z) i) ≡ true = and-l (not (eqb (p + z) i)) _ (first .passes) in
           record {
             packed = repacked (v .packed) eg eh ed;
             answers = answering-more _ there next-below (length-numbers 4 (size l) g' ∙ sym (length-numbers 4 (size l) g)) eh (length-numbers 8 (size l) d' ∙ sym (length-numbers 8 (size l) d)) (rw asks (e ∙ ap (λ (x : Command). answerAt x (l .tag) w (numberOf l (p + z)) (tablesIn l g h d)) ec));
             count = n;
             all = omega (arith, v .all, first .below);
-            mask = ap (λ (x : ℕ). x / 2) m ∙ mask-half test (p + z) n ∙ ap (λ (x : ℕ). maskFrom test x n) (sym (add-one (p + z)));
+            mask = ap (λ (x : ℕ). x / 2) m ∙ mask-half test (p + z) n ∙ ap (λ (x : ℕ). portsFrom test x n) (sym (add-one (p + z)));
           }

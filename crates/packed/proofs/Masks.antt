@@ -14,7 +14,7 @@ use Rattle.words.specs.Bools.{bit}
 use Rattle.words.proofs.Bools.{Is, by-bool, not-both}
 use Rattle.model.specs.Below.{anyBelow, none, number, orElse, lowest, atOr}
 use Rattle.model.proofs.Below.{any-below, none-below, below-none, lowest-cases}
-use Rattle.packed.specs.Masks.{maskFrom}
+use Rattle.packed.specs.Masks.{portsFrom}
 
 -- The lowest bit, and the rest.
 low : (b : Bool) (x : ℕ) → (bit b + 2 * x) % 2 ≡ bit b
@@ -33,56 +33,56 @@ pub bit-is : (b : Bool) → eqb (bit b) 1 ≡ b
 bit-is true = refl
 bit-is false = refl
 
-pub mask-lt : (f : ℕ → Bool) (a n : ℕ) → maskFrom f a n < 2 ^ n
-unfolding maskFrom
+pub mask-lt : (f : ℕ → Bool) (a n : ℕ) → portsFrom f a n < 2 ^ n
+unfolding portsFrom
 mask-lt f a zero = omega arith
 mask-lt f a (suc n) = rw (pow-suc 2 n) (omega (arith, mask-lt f (suc a) n, bit-le (f a)))
 
-pub mask-half : (f : ℕ → Bool) (a n : ℕ) → maskFrom f a (suc n) / 2 ≡ maskFrom f (suc a) n
-unfolding maskFrom
-mask-half f a n = rest (f a) (maskFrom f (suc a) n)
+pub mask-half : (f : ℕ → Bool) (a n : ℕ) → portsFrom f a (suc n) / 2 ≡ portsFrom f (suc a) n
+unfolding portsFrom
+mask-half f a n = rest (f a) (portsFrom f (suc a) n)
 
 -- The mask without its j lowest ports, and bit i.
-pub mask-drop : (f : ℕ → Bool) (a j n : ℕ) {m b : ℕ} → m ≡ j + n → b ≡ a + j → maskFrom f a m / 2 ^ j ≡ maskFrom f b n
+pub mask-drop : (f : ℕ → Bool) (a j n : ℕ) {m b : ℕ} → m ≡ j + n → b ≡ a + j → portsFrom f a m / 2 ^ j ≡ portsFrom f b n
 mask-drop f a zero n {m} {b} em eb =
     let x : m ≡ n = omega arith in
     let y : a ≡ b = omega arith in
-    rw (pow-zero 2, div-one (maskFrom f a m), x, y)
+    rw (pow-zero 2, div-one (portsFrom f a m), x, y)
 mask-drop f a (suc j) n {m} {b} em eb =
     let x : m ≡ suc (j + n) = omega arith in
-    ap (λ (k : ℕ). maskFrom f a k / 2 ^ suc j) x ∙ ap (λ (k : ℕ). maskFrom f a (suc (j + n)) / 2 ^ k) (one-more j)
-    ∙ sym (shr-shr (maskFrom f a (suc (j + n))) 1 j) ∙ ap (λ (k : ℕ). k / 2 ^ j) (mask-half f a (j + n)) ∙ mask-drop f (suc a) j n refl (omega arith)
+    ap (λ (k : ℕ). portsFrom f a k / 2 ^ suc j) x ∙ ap (λ (k : ℕ). portsFrom f a (suc (j + n)) / 2 ^ k) (one-more j)
+    ∙ sym (shr-shr (portsFrom f a (suc (j + n))) 1 j) ∙ ap (λ (k : ℕ). k / 2 ^ j) (mask-half f a (j + n)) ∙ mask-drop f (suc a) j n refl (omega arith)
   where
     one-more : (j : ℕ) → suc j ≡ 1 + j
     one-more j = omega arith
 
-pub mask-bit : (f : ℕ → Bool) (n i : ℕ) → i < n → maskFrom f 0 n / 2 ^ i % 2 ≡ bit (f i)
-unfolding maskFrom
+pub mask-bit : (f : ℕ → Bool) (n i : ℕ) → i < n → portsFrom f 0 n / 2 ^ i % 2 ≡ bit (f i)
+unfolding portsFrom
 mask-bit f n i h =
     let e : n ≡ i + suc (n - suc i) = omega arith in
-    let d : maskFrom f 0 n / 2 ^ i ≡ maskFrom f i (suc (n - suc i)) = mask-drop f 0 i (suc (n - suc i)) e (sym (zero-add i)) in
-    rw (d, low (f i) (maskFrom f (suc i) (n - suc i)))
+    let d : portsFrom f 0 n / 2 ^ i ≡ portsFrom f i (suc (n - suc i)) = mask-drop f 0 i (suc (n - suc i)) e (sym (zero-add i)) in
+    rw (d, low (f i) (portsFrom f (suc i) (n - suc i)))
 
 pub moved : (f : ℕ → Bool) {x y : ℕ} → x ≡ y → Is (f x) → Is (f y)
 moved f e h = subst (λ (z : ℕ). Is (f z)) e h
 
 -- An empty mask, and one that is not.
-pub mask-none : (f : ℕ → Bool) (a n : ℕ) → ((q : ℕ) → q < n → Is (not (f (a + q)))) → maskFrom f a n ≡ 0
-unfolding maskFrom
+pub mask-none : (f : ℕ → Bool) (a n : ℕ) → ((q : ℕ) → q < n → Is (not (f (a + q)))) → portsFrom f a n ≡ 0
+unfolding portsFrom
 mask-none f a zero h = refl
 mask-none f a (suc n) h =
     rw (not-true (f a) (moved (λ x. not (f x)) (omega arith) (h 0 (omega arith))), mask-none f (suc a) n (λ q l. moved (λ x. not (f x)) (omega arith) (h (suc q) (omega arith))))
 
-pub mask-some : (f : ℕ → Bool) (a n q : ℕ) → q < n → Is (f (a + q)) → 0 < maskFrom f a n
-unfolding maskFrom
+pub mask-some : (f : ℕ → Bool) (a n q : ℕ) → q < n → Is (f (a + q)) → 0 < portsFrom f a n
+unfolding portsFrom
 mask-some f a zero q l h = absurd (omega arith)
 mask-some f a (suc n) zero l h = rw (moved f {y = a} (omega arith) h) (omega arith)
 mask-some f a (suc n) (suc q) l h = omega (arith, mask-some f (suc a) n q (omega arith) (moved f (omega arith) h))
 
-pub mask-any : (f : ℕ → Bool) (n : ℕ) → not (eqb (maskFrom f 0 n) 0) ≡ anyBelow f n
+pub mask-any : (f : ℕ → Bool) (n : ℕ) → not (eqb (portsFrom f 0 n) 0) ≡ anyBelow f n
 mask-any f n =
-    lowest-cases (λ _. not (eqb (maskFrom f 0 n) 0) ≡ anyBelow f n) f n
-    (λ p l h. rw (any-below f n p l h, ne-eqb (maskFrom f 0 n) 0 (λ e. absurd (omega (arith, mask-some f 0 n p l (moved f (omega arith) h))))))
+    lowest-cases (λ _. not (eqb (portsFrom f 0 n) 0) ≡ anyBelow f n) f n
+    (λ p l h. rw (any-below f n p l h, ne-eqb (portsFrom f 0 n) 0 (λ e. absurd (omega (arith, mask-some f 0 n p l (moved f (omega arith) h))))))
     (λ u. rw (not-true (anyBelow f n) u, mask-none f 0 n (λ q l. moved (λ x. not (f x)) (omega arith) (below-none f n u q l))))
 
 -- The lowest port in a mask that is not empty, for a count of d digits or more than the mask has.
@@ -91,16 +91,16 @@ pub record First (f : ℕ → Bool) (a n z : ℕ) : Type 0 where
   pub passes : Is (f (a + z))
   pub lower : (r : ℕ) → r < z → Is (not (f (a + r)))
 
-pub mask-first : (f : ℕ → Bool) (a n d : ℕ) → n ≤ d → 0 < maskFrom f a n → First f a n (trailingZeros d (maskFrom f a n))
-unfolding maskFrom trailingZeros
+pub mask-first : (f : ℕ → Bool) (a n d : ℕ) → n ≤ d → 0 < portsFrom f a n → First f a n (trailingZeros d (portsFrom f a n))
+unfolding portsFrom trailingZeros
 mask-first f a zero d l h = absurd (omega arith)
 mask-first f a (suc n) zero l h = absurd (omega arith)
 mask-first f a (suc n) (suc d) l h =
     by-bool (f a)
-    (λ t. rw (low (f a) (maskFrom f (suc a) n), t) (record { below = omega arith; passes = moved f (omega arith) t; lower = λ r k. absurd (omega arith) }))
+    (λ t. rw (low (f a) (portsFrom f (suc a) n), t) (record { below = omega arith; passes = moved f (omega arith) t; lower = λ r k. absurd (omega arith) }))
     (λ t. let u = not-true (f a) t in
-    let more : First f (suc a) n (trailingZeros d (maskFrom f (suc a) n)) = mask-first f (suc a) n d (omega arith) (omega (arith, rw u at h)) in
-    rw (low (f a) (maskFrom f (suc a) n), rest (f a) (maskFrom f (suc a) n), u)
+    let more : First f (suc a) n (trailingZeros d (portsFrom f (suc a) n)) = mask-first f (suc a) n d (omega arith) (omega (arith, rw u at h)) in
+    rw (low (f a) (portsFrom f (suc a) n), rest (f a) (portsFrom f (suc a) n), u)
     (record {
       below = omega (arith, more .below);
       passes = moved f (omega arith) (more .passes);
@@ -125,8 +125,8 @@ lowest-is f (suc n) q l h u =
     lowest-none f n u = lowest-cases (λ x. x ≡ none) f n (λ p k h. absurd (not-both h (u p k))) (λ _. refl)
 
 -- Equal tests have equal masks.
-mask-ext : (f g : ℕ → Bool) (a n : ℕ) → ((q : ℕ) → q < n → f (a + q) ≡ g (a + q)) → maskFrom f a n ≡ maskFrom g a n
-unfolding maskFrom
+mask-ext : (f g : ℕ → Bool) (a n : ℕ) → ((q : ℕ) → q < n → f (a + q) ≡ g (a + q)) → portsFrom f a n ≡ portsFrom g a n
+unfolding portsFrom
 mask-ext f g a zero h = refl
 mask-ext f g a (suc n) h =
     let z : f a ≡ g a = subst (λ (x : ℕ). f x ≡ g x) (add-zero a) (h 0 (omega arith)) in
@@ -136,8 +136,8 @@ mask-ext f g a (suc n) h =
     shifted a q = omega arith
 
 -- The mask without port i.
-pub mask-without : (f : ℕ → Bool) (a n j i : ℕ) → i ≡ a + j → j < n → maskFrom f a n ≡ maskFrom (λ p. not (eqb p i) && f p) a n + bit (f i) * 2 ^ j
-unfolding maskFrom
+pub mask-without : (f : ℕ → Bool) (a n j i : ℕ) → i ≡ a + j → j < n → portsFrom f a n ≡ portsFrom (λ p. not (eqb p i) && f p) a n + bit (f i) * 2 ^ j
+unfolding portsFrom
 mask-without f a zero j i e l = absurd (omega arith)
 mask-without f a (suc n) zero i e l =
     let x : a ≡ i = omega arith in
@@ -150,7 +150,7 @@ mask-without f a (suc n) (suc j) i e l =
     rw (mask-without f (suc a) n j i (omega arith) (omega arith), d, pow-suc 2 j) (omega arith)
 
 -- What the lowest port in a mask gives, or x where the mask is empty.
-module _ (f : ℕ → Bool) (n : ℕ) {m : ℕ} (em : m ≡ maskFrom f 0 n) where
+module _ (f : ℕ → Bool) (n : ℕ) {m : ℕ} (em : m ≡ portsFrom f 0 n) where
   pub first-port : n ≤ 64 → (m ≡ 0 → ⊥) → First f 0 n (trailingZeros 64 m)
   first-port few h = rw em (mask-first f 0 n 64 few (omega (arith, h, em)))
 
@@ -166,8 +166,8 @@ module _ (f : ℕ → Bool) (n : ℕ) {m : ℕ} (em : m ≡ maskFrom f 0 n) wher
       rw (lowest-is f n (trailingZeros 64 m) (z .below) (moved f (omega arith) (z .passes)) (λ r k. moved (λ y. not (f y)) (omega arith) (z .lower r k)))
 
 -- The mask without port i, as the code takes its bit away.
-pub bit-away : (f : ℕ → Bool) (n i : ℕ) {m : ℕ} → m ≡ maskFrom f 0 n → i < n → n ≤ 8
-    → (m / 2 ^ i % 2 * 2 ^ i % 2 ^ 64 ≤ m) × (m - m / 2 ^ i % 2 * 2 ^ i % 2 ^ 64 ≡ maskFrom (λ p. not (eqb p i) && f p) 0 n)
+pub bit-away : (f : ℕ → Bool) (n i : ℕ) {m : ℕ} → m ≡ portsFrom f 0 n → i < n → n ≤ 8
+    → (m / 2 ^ i % 2 * 2 ^ i % 2 ^ 64 ≤ m) × (m - m / 2 ^ i % 2 * 2 ^ i % 2 ^ 64 ≡ portsFrom (λ p. not (eqb p i) && f p) 0 n)
 bit-away f n i {m} em l few =
     let b : m / 2 ^ i % 2 ≡ bit (f i) = rw em (mask-bit f n i l) in
     let s : m / 2 ^ i % 2 * 2 ^ i % 2 ^ 64 ≡ bit (f i) * 2 ^ i = rw b (shl-exact {a = bit (f i)} 1 i 64 (omega (arith, bit-le (f i))) (omega arith)) in

@@ -11,7 +11,8 @@ use lib.Pow.{pow-mono}
 use borrow.Author.Tests.{eqb-true, eqb-false, lt-ltb, le-ltb, ltb-true, ltb-false, ne-eqb, not-true, not-false}
 use Rattle.protocol.specs.declared.state.State.{State}
 use Rattle.protocol.specs.declared.state.State.the-variants.{I}
-use Rattle.protocol.specs.State.{stateOf, orInvalid, isState, valid, owner}
+use Rattle.protocol.specs.State.{stateOf, stateRow, orInvalid, isState, valid, owner}
+use Rattle.protocol.proofs.States.{state-row-is}
 use Rattle.words.specs.Bools.{bit}
 use Rattle.words.proofs.Bools.{Is, and-l, by-bool}
 use Rattle.model.specs.Below.{allBelow, anyBelow, lowest, atOr}
@@ -23,7 +24,7 @@ use Rattle.ports.specs.Line.{Tables, tables, numberOf, seenIn, entryAt}
 use Rattle.ports.specs.Survey.{lookAt, soundIn, holdsIn, ownsIn}
 use Rattle.caches.specs.Access.{seenBy, columnIn, sharedIn, dirtyIn, foundIn}
 use Rattle.packed.specs.declared.survey.Masks.{Masks}
-use Rattle.packed.specs.Masks.{maskFrom, lanes, marksOf, masksOf, otherIn, Sound}
+use Rattle.packed.specs.Masks.{portsFrom, lanes, lookLanes, masksOf, otherIn, AllStates}
 use Rattle.packed.proofs.Masks.{bit-le, bit-is, mask-lt, mask-bit, mask-any}
 
 -- What a byte says, by whether the entry has the line's tag and whether its tag is below the limit.
@@ -42,18 +43,18 @@ abbrev lanesOf : ℕ → ℕ
 lanesOf x = x % 2 + x / 65536 % 2 * 65536 + x / 4294967296 % 2 * 4294967296
 
 abbrev rightRow : Bool → Bool → ℕ → Bool
-rightRow here near b = eqb (lanesOf (rowOf here near / 2 ^ b)) (marksOf (saysOf here near b))
+rightRow here near b = eqb (lanesOf (rowOf here near / 2 ^ b)) (lookLanes (saysOf here near b))
 
 row-here : Is (allBelow (rightRow true true) 16)
-unfolding allBelow stateOf marksOf
+unfolding allBelow stateOf lookLanes
 row-here = refl
 
 row-near : Is (allBelow (rightRow false true) 16)
-unfolding allBelow stateOf marksOf
+unfolding allBelow stateOf lookLanes
 row-near = refl
 
 row-far : Is (allBelow (rightRow false false) 16)
-unfolding allBelow stateOf marksOf
+unfolding allBelow stateOf lookLanes
 row-far = refl
 
 -- A byte from 16 on is no state, as 15 is none.
@@ -70,27 +71,32 @@ clamped b =
 in-row : (b : ℕ) → cond (ltb b 16) b 15 < 16
 in-row b = by-bool (ltb b 16) (λ h. rw h (ltb-true b 16 h)) (λ h. rw (not-true (ltb b 16) h) (omega arith))
 
-right-row : (here near : Bool) → Is (allBelow (rightRow here near) 16) → (b : ℕ) → b < 16 → lanesOf (rowOf here near / 2 ^ b) ≡ marksOf (saysOf here near b)
+right-row : (here near : Bool) → Is (allBelow (rightRow here near) 16) → (b : ℕ) → b < 16 → lanesOf (rowOf here near / 2 ^ b) ≡ lookLanes (saysOf here near b)
 right-row here near h b l = eqb-true _ _ (below-all (rightRow here near) 16 h b l)
 
 -- What an entry says, as the code finds it.
-pub marks-are : (l : Line) (t b : ℕ) → l .tag < l .limit → {away row n : ℕ} → away ≡ cond (ltb t (l .limit)) 0xE1F800000000 0xFFFE00000000
-    → row ≡ cond (eqb t (l .tag)) 0xE1F818001E06 away → n ≡ cond (ltb b 16) b 15 → lanesOf (row / 2 ^ n) ≡ marksOf (lookAt l t b)
+pub lanes-are : (l : Line) (t b : ℕ) → l .tag < l .limit → {here away row n : ℕ} → here ≡ stateRow
+    → away ≡ cond (ltb t (l .limit)) (here / 4294967296 * 4294967296) (here / 4294967296 * 4294967296 + here % 65536 * 4294967296)
+    → row ≡ cond (eqb t (l .tag)) here away → n ≡ cond (ltb b 16) b 15 → lanesOf (row / 2 ^ n) ≡ lookLanes (lookAt l t b)
 unfolding lookAt
-marks-are l t b there ea er en =
+lanes-are l t b there eh ea er en =
     let k : ℕ = cond (ltb b 16) b 15 in
-    rw (en, er, ea, ← clamped b)
+    rw (en, er, ea, eh, state-row-is, ← clamped b)
     (by-bool (eqb t (l .tag))
     (λ h. let near : ltb t (l .limit) ≡ true = rw (eqb-true t (l .tag) h) (lt-ltb (l .tag) (l .limit) there) in rw (near, h) (right-row true true row-here k (in-row b)))
     (λ h. rw (not-true (eqb t (l .tag)) h)
     (by-bool (ltb t (l .limit)) (λ n. rw n (right-row false true row-near k (in-row b))) (λ n. rw (not-true (ltb t (l .limit)) n) (right-row false false row-far k (in-row b))))))
 
+-- The row of a tag that is not below the limit fits its type.
+pub row-fits : {here : ℕ} → here ≡ stateRow → here ≡ 0xE1F818001E06
+row-fits e = e ∙ state-row-is
+
 pub shift-below : (b : ℕ) {n : ℕ} → n ≡ cond (ltb b 16) b 15 → n < 16
 shift-below b e = rw e (in-row b)
 
-pub marks-fit : (k : Look) {x : ℕ} → x ≡ marksOf k → x < 8589934592
-unfolding marksOf
-marks-fit k e = omega (arith, e, bit-le (k .holds), bit-le (k .owns), bit-le (not (k .sound)))
+pub look-fits : (k : Look) {x : ℕ} → x ≡ lookLanes k → x < 8589934592
+unfolding lookLanes
+look-fits k e = omega (arith, e, bit-le (k .holds), bit-le (k .owns), bit-le (not (k .sound)))
 
 -- A lane by itself.
 lane-one : (x y z : ℕ) → x < 65536 → lanes x y z % 65536 ≡ x
@@ -111,34 +117,34 @@ module _ (l : Line) (g h : List ℕ) where
   unsoundIn p = not (soundIn l g h p)
 
   abbrev lanesFrom : ℕ → ℕ → ℕ
-  lanesFrom p n = lanes (maskFrom (holdsIn l g h) p n) (maskFrom (ownsIn l g h) p n) (maskFrom unsoundIn p n)
+  lanesFrom p n = lanes (portsFrom (holdsIn l g h) p n) (portsFrom (ownsIn l g h) p n) (portsFrom unsoundIn p n)
 
-  pub record Marking (marks p : ℕ) : Type 0 where
+  pub record Surveyed (sum p : ℕ) : Type 0 where
     pub count : ℕ
     pub all : p + count ≡ l .ports
-    pub now : marks ≡ lanesFrom p count
+    pub now : sum ≡ lanesFrom p count
 
-  pub marking-none : Marking 0 (l .ports)
-  unfolding maskFrom
-  marking-none = record { count = 0; all = omega arith; now = refl }
+  pub surveyed-none : Surveyed 0 (l .ports)
+  unfolding portsFrom
+  surveyed-none = record { count = 0; all = omega arith; now = refl }
 
-  lane-lt : l .ports ≤ 8 → (f : ℕ → Bool) (p n : ℕ) → p + n ≡ l .ports → maskFrom f p n < 256
+  lane-lt : l .ports ≤ 8 → (f : ℕ → Bool) (p n : ℕ) → p + n ≡ l .ports → portsFrom f p n < 256
   lane-lt few f p n e = omega (arith, mask-lt f p n, pow-mono {i = n} {j = 8} (omega arith))
 
   -- The sum fits its type.
-  pub marking-fits : l .ports ≤ 8 → {marks p : ℕ} → Marking marks p → marks < 2199023255552
-  marking-fits few {marks} {p} v =
+  pub surveyed-fits : l .ports ≤ 8 → {sum p : ℕ} → Surveyed sum p → sum < 2199023255552
+  surveyed-fits few {sum} {p} v =
       omega (arith, v .now, lane-lt few (holdsIn l g h) p (v .count) (v .all), lane-lt few (ownsIn l g h) p (v .count) (v .all), lane-lt few unsoundIn p (v .count) (v .all))
 
-  look-marks : (p : ℕ) → marksOf (lookAt l (getD g (numberOf l p) 0) (getD h (numberOf l p) 0)) ≡ lanes (bit (holdsIn l g h p)) (bit (ownsIn l g h p)) (bit (unsoundIn p))
-  unfolding marksOf lookAt soundIn seenIn
-  look-marks p = refl
+  look-lanes : (p : ℕ) → lookLanes (lookAt l (getD g (numberOf l p) 0) (getD h (numberOf l p) 0)) ≡ lanes (bit (holdsIn l g h p)) (bit (ownsIn l g h p)) (bit (unsoundIn p))
+  unfolding lookLanes lookAt soundIn seenIn
+  look-lanes p = refl
 
-  pub marking-more : {marks p q x y : ℕ} → Marking marks p → q + 1 ≡ p → x ≡ marksOf (lookAt l (getD g (numberOf l q) 0) (getD h (numberOf l q) 0)) → y ≡ 2 * marks + x → Marking y q
-  unfolding maskFrom
-  marking-more {marks} {p} {q} {x} v ep ex ey =
+  pub surveyed-more : {sum p q x y : ℕ} → Surveyed sum p → q + 1 ≡ p → x ≡ lookLanes (lookAt l (getD g (numberOf l q) 0) (getD h (numberOf l q) 0)) → y ≡ 2 * sum + x → Surveyed y q
+  unfolding portsFrom
+  surveyed-more {sum} {p} {q} {x} v ep ex ey =
       let e : p ≡ suc q = omega arith in
-      record { count = suc (v .count); all = omega (arith, v .all); now = omega (arith, ey, ex, look-marks q, rw e at v .now) }
+      record { count = suc (v .count); all = omega (arith, v .all); now = omega (arith, ey, ex, look-lanes q, rw e at v .now) }
 
   -- All ports are marked.
   not-all : (f : ℕ → Bool) (n : ℕ) → anyBelow (λ p. not (f p)) n ≡ not (allBelow f n)
@@ -150,29 +156,29 @@ module _ (l : Line) (g h : List ℕ) where
       nand true b = refl
       nand false b = refl
 
-  pub marking-done : l .ports ≤ 8 → {marks p : ℕ} → Marking marks p → p ≤ 0
-      → _≡_ {A = Masks} (record { sound = ltb marks 4294967296; holders = marks % 65536; owners = marks / 65536 % 65536 }) (masksOf l g h (l .ports))
+  pub surveyed-done : l .ports ≤ 8 → {sum p : ℕ} → Surveyed sum p → p ≤ 0
+      → _≡_ {A = Masks} (record { sound = ltb sum 4294967296; holders = sum % 65536; owners = sum / 65536 % 65536 }) (masksOf l g h (l .ports))
   unfolding masksOf
-  marking-done few {marks} {p} v z =
+  surveyed-done few {sum} {p} v z =
       let n : v .count ≡ l .ports = omega (arith, v .all) in
       let e : p ≡ 0 = omega arith in
-      let now : marks ≡ lanesFrom 0 (l .ports) = v .now ∙ ap (λ (x : ℕ). lanesFrom x (v .count)) e ∙ ap (lanesFrom 0) n in
+      let now : sum ≡ lanesFrom 0 (l .ports) = v .now ∙ ap (λ (x : ℕ). lanesFrom x (v .count)) e ∙ ap (lanesFrom 0) n in
       let a = lane-lt few (holdsIn l g h) 0 (l .ports) (omega arith) in
       let b = lane-lt few (ownsIn l g h) 0 (l .ports) (omega arith) in
-      let holders : marks % 65536 ≡ maskFrom (holdsIn l g h) 0 (l .ports) = rw now (lane-one _ (maskFrom (ownsIn l g h) 0 (l .ports)) (maskFrom unsoundIn 0 (l .ports)) (omega (arith, a))) in
-      let owners : marks / 65536 % 65536 ≡ maskFrom (ownsIn l g h) 0 (l .ports) = rw now (lane-two (maskFrom (holdsIn l g h) 0 (l .ports)) _ (maskFrom unsoundIn 0 (l .ports)) (omega (arith, a)) (omega (arith, b))) in
-      let sound : ltb marks 4294967296 ≡ allBelow (soundIn l g h) (l .ports) = by-bool (allBelow (soundIn l g h) (l .ports))
-      (λ y. rw y (lt-ltb marks 4294967296 (omega (arith, now, a, b, empty y))))
-      (λ y. rw (not-true (allBelow (soundIn l g h) (l .ports)) y) (le-ltb marks 4294967296 (omega (arith, now, some y))))
+      let holders : sum % 65536 ≡ portsFrom (holdsIn l g h) 0 (l .ports) = rw now (lane-one _ (portsFrom (ownsIn l g h) 0 (l .ports)) (portsFrom unsoundIn 0 (l .ports)) (omega (arith, a))) in
+      let owners : sum / 65536 % 65536 ≡ portsFrom (ownsIn l g h) 0 (l .ports) = rw now (lane-two (portsFrom (holdsIn l g h) 0 (l .ports)) _ (portsFrom unsoundIn 0 (l .ports)) (omega (arith, a)) (omega (arith, b))) in
+      let sound : ltb sum 4294967296 ≡ allBelow (soundIn l g h) (l .ports) = by-bool (allBelow (soundIn l g h) (l .ports))
+      (λ y. rw y (lt-ltb sum 4294967296 (omega (arith, now, a, b, empty y))))
+      (λ y. rw (not-true (allBelow (soundIn l g h) (l .ports)) y) (le-ltb sum 4294967296 (omega (arith, now, some y))))
       in rw (holders, owners, sound)
     where
-      any : not (eqb (maskFrom unsoundIn 0 (l .ports)) 0) ≡ not (allBelow (soundIn l g h) (l .ports))
+      any : not (eqb (portsFrom unsoundIn 0 (l .ports)) 0) ≡ not (allBelow (soundIn l g h) (l .ports))
       any = mask-any unsoundIn (l .ports) ∙ not-all (soundIn l g h) (l .ports)
 
-      empty : Is (allBelow (soundIn l g h) (l .ports)) → maskFrom unsoundIn 0 (l .ports) ≡ 0
+      empty : Is (allBelow (soundIn l g h) (l .ports)) → portsFrom unsoundIn 0 (l .ports) ≡ 0
       empty y = eqb-true _ _ (not-false _ (any ∙ ap not y))
 
-      some : Is (not (allBelow (soundIn l g h) (l .ports))) → 0 < maskFrom unsoundIn 0 (l .ports)
+      some : Is (not (allBelow (soundIn l g h) (l .ports))) → 0 < portsFrom unsoundIn 0 (l .ports)
       some y = positive _ (eqb-false _ _ (not-true _ (any ∙ y)))
         where
           positive : (n : ℕ) → (n ≡ 0 → ⊥) → 0 < n
@@ -180,11 +186,11 @@ module _ (l : Line) (g h : List ℕ) where
 
 -- What the masks say is what the definitions ask.
 module _ (l : Line) (g h : List ℕ) {s : Masks} (es : s ≡ masksOf l g h (l .ports)) where
-  pub masks-holders : s .holders ≡ maskFrom (holdsIn l g h) 0 (l .ports)
+  pub masks-holders : s .holders ≡ portsFrom (holdsIn l g h) 0 (l .ports)
   unfolding masksOf
   masks-holders = ap (λ (x : Masks). x .holders) es
 
-  pub masks-owners : s .owners ≡ maskFrom (ownsIn l g h) 0 (l .ports)
+  pub masks-owners : s .owners ≡ portsFrom (ownsIn l g h) 0 (l .ports)
   unfolding masksOf
   masks-owners = ap (λ (x : Masks). x .owners) es
 
@@ -194,7 +200,7 @@ module _ (l : Line) (g h : List ℕ) {s : Masks} (es : s ≡ masksOf l g h (l .p
   pub masks-own : (i : ℕ) → i < l .ports → eqb (s .owners / 2 ^ i % 2) 1 ≡ owner (seenIn l g h i)
   masks-own i port = rw (masks-owners, mask-bit (ownsIn l g h) (l .ports) i port) (bit-is (owner (seenIn l g h i)))
 
-  pub masks-sound : not (s .sound) ≡ false → Sound l h
+  pub masks-sound : not (s .sound) ≡ false → AllStates l h
   unfolding masksOf soundIn
   masks-sound e p q = and-l (isState (stateOf (getD h (numberOf l p) 0))) _ (below-all (soundIn l g h) (l .ports) (sym (ap (λ (x : Masks). x .sound) es) ∙ not-false (s .sound) e) p q)
 
@@ -207,7 +213,7 @@ module _ (l : Line) (t : Tables) (i : ℕ) (port : i < l .ports) {s : Masks} (es
   unfolding dirtyIn
   masks-dirty = rw (masks-owners l (t .tags) (t .states) es) (mask-any (ownsIn l (t .tags) (t .states)) (l .ports))
 
-  pub masks-shared : {o : ℕ} → o ≡ maskFrom (otherIn l (t .tags) (t .states) i) 0 (l .ports) → not (eqb o 0) ≡ sharedIn l t i
+  pub masks-shared : {o : ℕ} → o ≡ portsFrom (otherIn l (t .tags) (t .states) i) 0 (l .ports) → not (eqb o 0) ≡ sharedIn l t i
   unfolding sharedIn
   masks-shared e = rw e (mask-any (otherIn l (t .tags) (t .states) i) (l .ports))
 

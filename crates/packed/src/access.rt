@@ -19,7 +19,7 @@ ghost use Rattle.ports.specs.Line.{numberOf};
 ghost use Rattle.ports.specs.Survey.{ownsIn};
 ghost use Rattle.caches.specs.Access.{accessIn, accessTables, flushIn, flushTables};
 ghost use Rattle.packed.specs.Packed.{size, tablesIn, Packed};
-ghost use Rattle.packed.specs.Masks.{maskFrom};
+ghost use Rattle.packed.specs.Masks.{portsFrom};
 
 // The word that a port finds: its own on a hit, else the lowest-numbered owner's, else memory's.
 fn find_word(
@@ -33,7 +33,7 @@ fn find_word(
     memory: u64,
 ) -> u64
     requires { ⌜ Packed line (now tags) (now states) (now words) ⌝ }
-    requires { ⌜ owners ≡ maskFrom (ownsIn line (numbers 4 (size line) (now tags)) (now states)) 0 (line .ports) ⌝ }
+    requires { ⌜ owners ≡ portsFrom (ownsIn line (numbers 4 (size line) (now tags)) (now states)) 0 (line .ports) ⌝ }
     ensures { λ r. ⌜ r ≡ cond hit own (atOr (λ p. getD (numbers 8 (size line) (now (words .entry))) (numberOf line p) 0) memory (lowest (ownsIn line (numbers 4 (size line) (now (tags .entry))) (now (states .entry))) (line .ports))) ⌝ }
 {
     if hit {

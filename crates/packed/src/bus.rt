@@ -11,7 +11,7 @@ ghost use Prim.Native.Nat.{_+_, _<_};
 ghost use Rattle.endian.specs.Little.{numbers};
 ghost use Rattle.ports.specs.Bus.{answerAt, answered, asked, commandOf};
 ghost use Rattle.packed.specs.Packed.{size, tablesIn, Packed, Room, Holder, statesAnswered, wordsAnswered};
-ghost use Rattle.packed.specs.Masks.{maskFrom, otherIn, Sound};
+ghost use Rattle.packed.specs.Masks.{portsFrom, otherIn, AllStates};
 
 // A holder's answer, from its own part of the tables; w is the line's new word.
 fn answer(
@@ -76,8 +76,8 @@ fn broadcast(
     w: u64,
 )
     requires { ⌜ Packed line (now tags) (now states) (now words) ⌝ }
-    requires { ⌜ Sound line (now states) ⌝ }
-    requires { ⌜ others ≡ maskFrom (otherIn line (numbers 4 (size line) (now tags)) (now states) i) 0 (line .ports) ⌝ }
+    requires { ⌜ AllStates line (now states) ⌝ }
+    requires { ⌜ others ≡ portsFrom (otherIn line (numbers 4 (size line) (now tags)) (now states) i) 0 (line .ports) ⌝ }
     requires { ⌜ bus < 7 ⌝ }
     ensures { λ r. ⌜ tablesIn line (now (tags .exit)) (now (states .exit)) (now (words .exit)) ≡ answered line (commandOf bus) w i (tablesIn line (now (tags .entry)) (now (states .entry)) (now (words .entry))) (line .ports) ⌝ }
 {
@@ -106,8 +106,8 @@ pub fn ask(
     w: u64,
 )
     requires { ⌜ Packed line (now tags) (now states) (now words) ⌝ }
-    requires { ⌜ Sound line (now states) ⌝ }
-    requires { ⌜ others ≡ maskFrom (otherIn line (numbers 4 (size line) (now tags)) (now states) i) 0 (line .ports) ⌝ }
+    requires { ⌜ AllStates line (now states) ⌝ }
+    requires { ⌜ others ≡ portsFrom (otherIn line (numbers 4 (size line) (now tags)) (now states) i) 0 (line .ports) ⌝ }
     requires { ⌜ bus < 7 ⌝ }
     ensures { λ r. ⌜ tablesIn line (now (tags .exit)) (now (states .exit)) (now (words .exit)) ≡ asked line (not (eqb others 0)) bus w i (tablesIn line (now (tags .entry)) (now (states .entry)) (now (words .entry))) ⌝ }
 {

@@ -1,6 +1,7 @@
 // One look at every port's entry for a line.
 use crate::entry;
 use ports::line::Line;
+use protocol::state;
 use words::choose;
 ghost use mathlib.Core.Path.{_≡_};
 ghost use Prim.Native.Nat.{_<_};
@@ -8,7 +9,7 @@ ghost use lib.ListN.{getD};
 ghost use Rattle.endian.specs.Little.{numbers};
 ghost use Rattle.ports.specs.Survey.{lookAt};
 ghost use Rattle.packed.specs.Packed.{size, Packed};
-ghost use Rattle.packed.specs.Masks.{marksOf, masksOf};
+ghost use Rattle.packed.specs.Masks.{lookLanes, masksOf};
 
 // What the ports say of a line: that every entry is sound, the ports that hold the line, and those that own it. Bit p is port p's.
 pub struct Masks {
@@ -17,25 +18,29 @@ pub struct Masks {
     pub owners: u64,
 }
 
-// What an entry with the tag t and the state byte b says, as bits 0, 16 and 32: that it holds the line, that it owns it, that it is
-// unsound. Bit b of the three lanes of a row says it of byte b; the rows are for the line's tag, for one below the limit and for one above.
-// No branch depends on the entry: what a table holds follows no pattern.
-fn marks_at(line: Line, t: u32, b: u8) -> u64
+// What an entry with the tag t and the state byte b says, in three lanes of 16 bits: bit 0 that it holds the line, bit 16 that it owns it,
+// bit 32 that it is unsound. Bit b of a row's lanes says it of byte b: for the line's tag the row is the match's own; for another tag below
+// the limit only what is no state counts; for one not below it, all but I. A byte from 16 on is no state, as 15 is none, and is looked up
+// as 15. No branch depends on the entry: what tables hold follows no pattern.
+fn lanes_at(line: Line, t: u32, b: u8) -> u64
     requires { ⌜ line .tag < line .limit ⌝ }
-    ensures { λ r. ⌜ r ≡ marksOf (lookAt line t b) ⌝ }
+    ensures { λ r. ⌜ r ≡ lookLanes (lookAt line t b) ⌝ }
 {
-    let away = choose::choose_word(t < line.limit, 0xE1F8_0000_0000, 0xFFFE_0000_0000);
-    let row = choose::choose_word(t == line.tag, 0xE1F8_1800_1E06, away);
+    let here = state::state_row();
+    let near = here / 4294967296 * 4294967296;
+    let far = near + here % 65536 * 4294967296;
+    let away = choose::choose_word(t < line.limit, near, far);
+    let row = choose::choose_word(t == line.tag, here, away);
     let x = row >> choose::choose_byte(b < 16, b, 15);
     x % 2 + x / 65536 % 2 * 65536 + x / 4294967296 % 2 * 4294967296
 }
 
-fn mark_entry(tags: &[u8], states: &[u8], words: &[u8], line: Line, k: usize) -> u64
+fn entry_lanes(tags: &[u8], states: &[u8], words: &[u8], line: Line, k: usize) -> u64
     requires { ⌜ Packed line (now tags) (now states) (now words) ⌝ }
     requires { ⌜ k < size line ⌝ }
-    ensures { λ r. ⌜ r ≡ marksOf (lookAt line (getD (numbers 4 (size line) (now (tags .entry))) k 0) (getD (now (states .entry)) k 0)) ⌝ }
+    ensures { λ r. ⌜ r ≡ lookLanes (lookAt line (getD (numbers 4 (size line) (now (tags .entry))) k 0) (getD (now (states .entry)) k 0)) ⌝ }
 {
-    marks_at(line, entry::tag_at(tags, k), states[k])
+    lanes_at(line, entry::tag_at(tags, k), states[k])
 }
 
 // Asks every port, in one pass, the last one first.
@@ -44,17 +49,17 @@ pub fn survey_ports(tags: &[u8], states: &[u8], words: &[u8], line: Line) -> Mas
     ensures { λ r. ⌜ r ≡ masksOf line (numbers 4 (size line) (now (tags .entry))) (now (states .entry)) (line .ports) ⌝ }
 {
     let sets = line.sets;
-    let mut marks = 0u64;
+    let mut sum = 0u64;
     let mut p = line.ports;
     while 0 < p {
         p -= 1;
         let k = p * sets + line.index;
-        let seen = mark_entry(tags, states, words, line, k);
-        marks = 2 * marks + seen;
+        let seen = entry_lanes(tags, states, words, line, k);
+        sum = 2 * sum + seen;
     }
     Masks {
-        sound: marks < 4294967296,
-        holders: marks % 65536,
-        owners: marks / 65536 % 65536,
+        sound: sum < 4294967296,
+        holders: sum % 65536,
+        owners: sum / 65536 % 65536,
     }
 }

@@ -12,7 +12,7 @@ use Rattle.protocol.specs.declared.state.State.{State}
 use Rattle.protocol.specs.declared.state.State.the-variants.{I, S, E, O, M}
 use Rattle.protocol.specs.declared.state.Byte.the-variants.{Of}
 use Rattle.words.specs.Bools.{implies}
-use Rattle.protocol.specs.State.{code, stateOf, isState, orInvalid, valid, owner, exclusive, isO, sameMode}
+use Rattle.protocol.specs.State.{code, stateOf, stateRow, isState, orInvalid, valid, owner, exclusive, isO, sameMode}
 use Rattle.words.proofs.Bools.{Is, mp}
 use Rattle.protocol.proofs.Finite.{at-state}
 
@@ -97,3 +97,8 @@ code-stateOf =
     (λ h. refl) (λ h. refl) (λ h. refl) (λ h. refl) (λ h. refl) (λ h. refl) (λ h. refl)
     (λ b n0 n1 n2 n9 n10 n11 n12 h.
     absurd (false≢true (rw (ne-eqb b 0 n0, ne-eqb b 1 n1, ne-eqb b 2 n2, ne-eqb b 9 n9, ne-eqb b 10 n10, ne-eqb b 11 n11, ne-eqb b 12 n12) at h)))
+
+-- The row of the bytes below 16 as a number.
+pub state-row-is : stateRow ≡ 0xE1F818001E06
+unfolding stateRow stateOf
+state-row-is = refl

@@ -1,7 +1,8 @@
 -- Modes, the seven states of an entry, and the bytes of the state table.
-use Prim.Native.Nat.{ℕ}
+use Prim.Native.Nat.{ℕ, zero, suc, _+_, _*_, _^_}
 use mathlib.Core.Bool.{Bool, true, false, cond, not}
 use lib.Dec.{eqb}
+use Rattle.words.specs.Bools.{bit}
 use Rattle.protocol.specs.declared.state.Mode.{Mode}
 use Rattle.protocol.specs.declared.state.Mode.the-variants.{Through, Back}
 use Rattle.protocol.specs.declared.state.State.{State}
@@ -90,3 +91,14 @@ isBack Back = true
 
 abbrev pub isThrough : Mode → Bool
 isThrough m = not (isBack m)
+
+-- The numbers below n that pass a test, as bits.
+abbrev pub bitsBelow : (ℕ → Bool) → ℕ → ℕ
+bitsBelow f zero = 0
+bitsBelow f (suc n) = bitsBelow f n + bit (f n) * 2 ^ n
+
+-- What `stateOf` says of the bytes below 16, in three lanes of 16 bits: that byte b isn't I, that it is O or M, that it is no state.
+unfoldable pub stateRow : ℕ
+unfolding stateOf
+stateRow =
+    bitsBelow (λ b. valid (orInvalid (stateOf b))) 16 + 65536 * bitsBelow (λ b. owner (orInvalid (stateOf b))) 16 + 4294967296 * bitsBelow (λ b. not (isState (stateOf b))) 16

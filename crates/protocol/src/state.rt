@@ -1,6 +1,6 @@
 // Modes, the seven states of an entry, and the bytes of the state table.
 ghost use mathlib.Core.Path.{_≡_};
-ghost use Rattle.protocol.specs.State.{stateOf, orInvalid, isState, valid, owner};
+ghost use Rattle.protocol.specs.State.{stateOf, stateRow, orInvalid, isState, valid, owner};
 
 // The mode of an access, and of an entry other than I.
 pub enum Mode {
@@ -37,6 +37,14 @@ pub fn byte_state(b: u8) -> Byte
         12 => Byte::Of(State::M),
         3..=8 | 13..=255 => Byte::No,
     }
+}
+
+// What the match says of the bytes below 16, as one row of bits: bit b where byte b isn't I, bit 16 + b where it is O or M, bit 32 + b where
+// it is no state. (From 13 on no byte is one.)
+pub fn state_row() -> u64
+    ensures { λ r. ⌜ r ≡ stateRow ⌝ }
+{
+    0xE1F8_1800_1E06
 }
 
 pub fn is_state(b: Byte) -> bool

@@ -24,7 +24,8 @@ writes Reads = false
 writes Fails = false
 writes Writes = true
 
--- What the code asks of an access, one by one. A read has the full mask and an operand and a compare value of 0: nothing comes of them.
+-- What is asked of an access, one by one. (The mark's sentence asks whether it is a write; the rest is the code's.) A read has the full mask,
+-- and 0 for operand and compare value: nothing comes of them.
 abbrev pub isWrite : Access → Bool
 isWrite Read = false
 isWrite (Write mask x) = true

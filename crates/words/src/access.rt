@@ -90,7 +90,7 @@ fn outcome_of(writes: bool, swap: bool) -> Outcome
     Outcome::Reads
 }
 
-// What an access does at the word w. No branch depends on the access: the kinds of an order follow no pattern.
+// What an access does at the word w. It takes no jump on the access's kind: the kinds of successive orders follow no pattern.
 pub fn effect_at(a: Access, w: u64) -> Effect
     ensures { λ r. ⌜ r ≡ effectAt a w ⌝ }
 {
@@ -99,10 +99,10 @@ pub fn effect_at(a: Access, w: u64) -> Effect
     let swap = is_swap(a);
     let swapped = swap & (word::half_of(mask, w) == compare_of(a));
     let writes = write | swapped;
-    let full = word::merged(mask, w, operand_of(a));
+    let merged = word::merged(mask, w, operand_of(a));
     Effect {
         outcome: outcome_of(writes, swap),
-        word: choose::choose_word(writes, full, w),
+        word: choose::choose_word(writes, merged, w),
         value: choose::choose_word(write, 0, w),
         swapped,
     }

@@ -5,18 +5,18 @@ use native.Mathlib.Omega.{arith}
 use Rattle.endian.specs.Little.{numbers}
 use Rattle.packed.specs.Packed.{size}
 use Rattle.packed.proofs.Places.{place}
-use Rattle.packed.proofs.Surveys.{Marking, marking-none, marking-more, marking-fits, marking-done, marks-fit}
+use Rattle.packed.proofs.Surveys.{Surveyed, surveyed-none, surveyed-more, surveyed-fits, surveyed-done, look-fits}
 use Rattle.packed.proofs.survey.survey_ports.Statement.{statement}
 use Rattle.packed.proofs.survey.survey_ports.Tie as tie
 
 abbrev Inv-loop : tie.InvT-loop
-Inv-loop tags states words line sets marks₀ p₀ marks p = Marking line (numbers 4 (size line) tags) states marks p
+Inv-loop tags states words line sets sum₀ p₀ sum p = Surveyed line (numbers 4 (size line) tags) states sum p
 
 abbrev μ-loop : tie.MeasureT-loop
-μ-loop tags states words line sets marks₀ p₀ marks p = p
+μ-loop tags states words line sets sum₀ p₀ sum p = p
 
 loop-holds : tie.Need-loop-holds Inv-loop μ-loop
-loop-holds c = marking-none _ _ _
+loop-holds c = surveyed-none _ _ _
 
 sub-p : tie.Need-sub-p Inv-loop μ-loop
 sub-p c = omega (arith, c .loop-test .taken)
@@ -27,23 +27,23 @@ mul-k c = omega (arith, place (c .before .before .before .before .before .pre) (
 add-k : tie.Need-add-k Inv-loop μ-loop
 add-k c = omega (arith, place (c .before .before .before .before .before .before .pre) (c .before .before .loop .p - 1) (omega (arith, c .before .loop-test .taken, c .before .before .loop .inv .all)), c .before .before .before .before .before .before .pre .states-fit)
 
-mark-entry-requires : tie.Need-mark-entry-requires Inv-loop μ-loop
-mark-entry-requires c κs = (c .before .before .before .before .before .before .pre, place (c .before .before .before .before .before .before .pre) (c .before .before .loop .p - 1) (omega (arith, c .before .loop-test .taken, c .before .before .loop .inv .all)))
+entry-lanes-requires : tie.Need-entry-lanes-requires Inv-loop μ-loop
+entry-lanes-requires c κs = (c .before .before .before .before .before .before .pre, place (c .before .before .before .before .before .before .pre) (c .before .before .loop .p - 1) (omega (arith, c .before .loop-test .taken, c .before .before .loop .inv .all)))
 
-mul-marks : tie.Need-mul-marks Inv-loop μ-loop
-mul-marks c = omega (arith, marking-fits _ _ _ (c .before .before .before .before .before .before .before .pre .few) (c .before .before .before .loop .inv))
+mul-sum : tie.Need-mul-sum Inv-loop μ-loop
+mul-sum c = omega (arith, surveyed-fits _ _ _ (c .before .before .before .before .before .before .before .pre .few) (c .before .before .before .loop .inv))
 
-add-marks : tie.Need-add-marks Inv-loop μ-loop
-add-marks c = omega (arith, marking-fits _ _ _ (c .before .before .before .before .before .before .before .pre .few) (c .before .before .before .loop .inv), marks-fit _ (c .mark-entry .ensures))
+add-sum : tie.Need-add-sum Inv-loop μ-loop
+add-sum c = omega (arith, surveyed-fits _ _ _ (c .before .before .before .before .before .before .before .pre .few) (c .before .before .before .loop .inv), look-fits _ (c .entry-lanes .ensures))
 
 loop-less : tie.Need-loop-less Inv-loop μ-loop
 loop-less c = omega (arith, c .before .before .loop-test .taken)
 
 loop-again : tie.Need-loop-again Inv-loop μ-loop
-loop-again c = marking-more _ _ _ (c .before .before .before .loop .inv) (omega (arith, c .before .before .loop-test .taken)) (c .mark-entry .ensures) refl
+loop-again c = surveyed-more _ _ _ (c .before .before .before .loop .inv) (omega (arith, c .before .before .loop-test .taken)) (c .entry-lanes .ensures) refl
 
 returns : tie.Need-returns Inv-loop μ-loop
-returns c = marking-done _ _ _ (c .before .before .before .before .before .pre .few) (c .before .loop .inv) (c .loop-test .left)
+returns c = surveyed-done _ _ _ (c .before .before .before .before .before .pre .few) (c .before .loop .inv) (c .loop-test .left)
 
 pub survey-ports-spec : {M : Type 1} → statement M
 survey-ports-spec =
@@ -55,9 +55,9 @@ survey-ports-spec =
     sub-p
     mul-k
     add-k
-    mark-entry-requires
-    mul-marks
-    add-marks
+    entry-lanes-requires
+    mul-sum
+    add-sum
     loop-less
     loop-again
     returns)
