@@ -23,7 +23,7 @@ pub enum Byte {
     No,
 }
 
-// The one place that tells the state bytes apart.
+// The one place that tells the state bytes apart, with the row of bits after it.
 pub fn byte_state(b: u8) -> Byte
     ensures { λ r. ⌜ r ≡ stateOf b ⌝ }
 {
