@@ -87,7 +87,7 @@ lanes-are l t b there eh ea er en =
     (λ h. rw (not-true (eqb t (l .tag)) h)
     (by-bool (ltb t (l .limit)) (λ n. rw n (right-row false true row-near k (in-row b))) (λ n. rw (not-true (ltb t (l .limit)) n) (right-row false false row-far k (in-row b))))))
 
--- The row of a tag that is not below the limit fits its type.
+-- The row as a number, by which the sums and products made from it fit their type.
 pub row-fits : {here : ℕ} → here ≡ stateRow → here ≡ 0xE1F818001E06
 row-fits e = e ∙ state-row-is
 
@@ -146,7 +146,7 @@ module _ (l : Line) (g h : List ℕ) where
       let e : p ≡ suc q = omega arith in
       record { count = suc (v .count); all = omega (arith, v .all); now = omega (arith, ey, ex, look-lanes q, rw e at v .now) }
 
-  -- All ports are marked.
+  -- All ports are passed: the lanes are the masks.
   not-all : (f : ℕ → Bool) (n : ℕ) → anyBelow (λ p. not (f p)) n ≡ not (allBelow f n)
   unfolding anyBelow allBelow
   not-all f zero = refl
