@@ -8,24 +8,18 @@ use lib.ListN.{getD, length, take, drop}
 use lib.Seq.{drop-cons}
 use lib.Dec.{eqb, leb}
 use native.Mathlib.Omega.{arith}
-use borrow.Author.Tests.{eq-eqb, ne-eqb, le-leb, lt-leb, eqb-true, leb-false, not-true}
+use borrow.Author.Tests.{eq-eqb, ne-eqb, le-leb, lt-leb, eqb-true, leb-false, not-true, not-false}
 use Rattle.words.proofs.Bools.{by-cond}
 use Rattle.model.specs.declared.shape.Shape.{Shape}
 use Rattle.model.specs.declared.found.Found.{Found}
 use Rattle.model.specs.declared.found.Found.the-variants.{Refused, Holder, Memory}
 use Rattle.model.specs.Shape.{refusalOf, entryOf}
 use Rattle.model.specs.Below.{lowest}
-use Rattle.model.specs.Tables.{Model, lentRefusal, wordAt, memoryAt, holds, columnSound}
+use Rattle.model.specs.Tables.{Model, model, lentRefusal, sound, seen, wordAt, memoryAt, holds, columnSound}
 use Rattle.model.specs.Find.{holderOr, find, wordsOf, view}
 use Rattle.model.proofs.Below.{lowest-cases}
 use Rattle.model.proofs.Entries.{entry-lt}
 use Rattle.model.proofs.Lent.{Lent, lent-facts, some-sets}
-use Rattle.ports.specs.declared.line.Line.{Line}
-use Rattle.ports.specs.declared.survey.Survey.{Survey}
-use Rattle.ports.specs.Survey.{holdsIn, surveyOf}
-use Rattle.ports.specs.Line.{lineOf}
-use Rattle.caches.proofs.Links.{column-link}
-use Rattle.find.proofs.Links.{holder-link}
 
 module _ (s : Shape) (t : Model) (a : ℕ) {r : ℕ} (e : r ≡ refusalOf s (length (t .memory)) (length (t .tags)) (length (t .states)) (length (t .words))) where
   refusal-is : r ≡ lentRefusal s t
@@ -41,26 +35,18 @@ module _ (s : Shape) (t : Model) (a : ℕ) {r : ℕ} (e : r ≡ refusalOf s (len
     unfolding find
     find-far h = rw (← refusal-is, eq-eqb r 0 z, le-leb _ _ h)
 
-    module _ (h : a < s .lines) {l : Line} (el : l ≡ lineOf s a) {v : Survey} (ev : v ≡ surveyOf l (t .tags) (t .states) 0 (l .ports)) where
-      column : v .sound ≡ columnSound s t a
-      unfolding surveyOf lineOf
-      column = rw (ev, el) (column-link s t a (some-sets s (lent-facts s t (sym refusal-is ∙ z) .range)))
+    module _ (h : a < s .lines) {v : Bool} (ev : v ≡ columnSound s (model [] (t .tags) (t .states) []) a) where
+      column : v ≡ columnSound s t a
+      unfolding columnSound sound
+      column = ev
 
-      pub find-unsound : not (v .sound) ≡ true → Refused 8 ≡ find s t a
+      pub find-unsound : not v ≡ true → Refused 8 ≡ find s t a
       unfolding find
-      find-unsound u = rw (← refusal-is, eq-eqb r 0 z, lt-leb _ _ h, ← column, not-true (v .sound) u)
+      find-unsound u = rw (← refusal-is, eq-eqb r 0 z, lt-leb _ _ h, ← column, not-true v u)
 
-      held : holderOr (lowest (holdsIn l (t .tags) (t .states)) (l .ports)) ≡ holderOr (lowest (holds s t a) (s .ports))
-      unfolding lineOf
-      held = rw el (ap holderOr (holder-link s t a (s .ports)))
-
-      pub find-first : {d : Found} → not (v .sound) ≡ false → d ≡ holderOr (lowest (holdsIn l (t .tags) (t .states)) (l .ports)) → d ≡ find s t a
-      unfolding find
-      find-first u q = rw (← refusal-is, eq-eqb r 0 z, lt-leb _ _ h, ← column, not-false (v .sound) u) (q ∙ held)
-        where
-          not-false : (b : Bool) → not b ≡ false → b ≡ true
-          not-false true _ = refl
-          not-false false k = sym k
+      pub find-first : {d : Found} → not v ≡ false → d ≡ holderOr (lowest (holds s (model [] (t .tags) (t .states) []) a) (s .ports)) → d ≡ find s t a
+      unfolding find seen
+      find-first u q = rw (← refusal-is, eq-eqb r 0 z, lt-leb _ _ h, ← column, not-false v u) q
 
 -- What finding names is there.
 pub record There (s : Shape) (t : Model) (a p : ℕ) : Type 0 where

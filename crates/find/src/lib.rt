@@ -1,33 +1,56 @@
 // Where a line's word stands, and the view of that word.
 use model::found::Found;
 use model::shape::Shape;
-use ports::line;
-use ports::line::Line;
-use ports::survey;
 use protocol::state;
 ghost use mathlib.Core.Path.{_≡_};
-ghost use mathlib.Core.Bool.{true};
+ghost use mathlib.Core.Bool.{true, _&&_, _||_, not};
 ghost use mathlib.Core.List.{[], _∷_};
 ghost use Prim.Native.Nat.{_<_};
 ghost use lib.ListN.{getD, length};
-ghost use Rattle.model.specs.Shape.{inRange, entryOf};
+ghost use lib.Dec.{ltb};
+ghost use Rattle.protocol.specs.State.{stateOf, orInvalid, isState, valid};
+ghost use Rattle.model.specs.Shape.{inRange, entries, entryOf};
 ghost use Rattle.model.specs.Below.{lowest};
-ghost use Rattle.model.specs.Tables.{model};
+ghost use Rattle.model.specs.Tables.{model, holds, columnSound};
 ghost use Rattle.model.specs.Find.{holderOr, find, view};
-ghost use Rattle.ports.specs.Line.{Sized};
-ghost use Rattle.ports.specs.Survey.{holdsIn};
 
-// The lowest-numbered port that holds the line, or memory.
-fn first_holder(tags: &[u32], states: &[u8], line: Line) -> Found
-    requires { ⌜ Sized line (now tags) (now states) ⌝ }
-    ensures { λ r. ⌜ r ≡ holderOr (lowest (holdsIn line (now (tags .entry)) (now (states .entry))) (line .ports)) ⌝ }
+// A byte is a state, and I or with a tag that has a home line.
+fn is_sound(b: u8, t: u32, limit: u32) -> bool
+    ensures { λ r. ⌜ r ≡ (isState (stateOf b) && (not (valid (orInvalid (stateOf b))) || ltb t limit)) ⌝ }
 {
-    let ports = line.ports;
-    let sets = line.sets;
+    let s = state::byte_state(b);
+    state::is_state(s) & (!state::is_valid(s) | (t < limit))
+}
+
+// Every port's entry at the index of line a is sound.
+fn column_sound(shape: Shape, tags: &[u32], states: &[u8], a: usize) -> bool
+    requires { ⌜ (inRange shape ≡ true) × (a < shape .lines) ⌝ }
+    requires { ⌜ (length (now tags) ≡ entries shape) × (length (now states) ≡ entries shape) ⌝ }
+    ensures { λ r. ⌜ r ≡ columnSound shape (model [] (now (tags .entry)) (now (states .entry)) []) a ⌝ }
+{
+    let at = shape.place(a);
+    let mut q = 0;
+    while q < shape.ports {
+        let k = q * shape.sets + at.index;
+        if !is_sound(states[k], tags[k], at.limit) {
+            return false;
+        }
+        q += 1;
+    }
+    true
+}
+
+// The lowest-numbered port that holds line a, or memory.
+fn first_holder(shape: Shape, tags: &[u32], states: &[u8], a: usize) -> Found
+    requires { ⌜ (inRange shape ≡ true) × (a < shape .lines) ⌝ }
+    requires { ⌜ (length (now tags) ≡ entries shape) × (length (now states) ≡ entries shape) ⌝ }
+    ensures { λ r. ⌜ r ≡ holderOr (lowest (holds shape (model [] (now (tags .entry)) (now (states .entry)) []) a) (shape .ports)) ⌝ }
+{
+    let at = shape.place(a);
     let mut p = 0;
-    while p < ports {
-        let k = p * sets + line.index;
-        let here = tags[k] == line.tag;
+    while p < shape.ports {
+        let k = p * shape.sets + at.index;
+        let here = tags[k] == at.tag;
         if here & state::is_valid(state::byte_state(states[k])) {
             return Found::Holder(p);
         }
@@ -54,12 +77,10 @@ pub fn find_line(
     if shape.lines <= a {
         return Found::Refused(6);
     }
-    let l = line::line_of(shape, a);
-    let s = survey::survey_ports(tags, states, l, 0);
-    if !s.sound {
+    if !column_sound(shape, tags, states, a) {
         return Found::Refused(8);
     }
-    first_holder(tags, states, l)
+    first_holder(shape, tags, states, a)
 }
 
 // The number of port p's entry for line a.
@@ -68,8 +89,8 @@ fn entry_number(shape: Shape, p: usize, a: usize) -> usize
     requires { ⌜ p < shape .ports ⌝ }
     ensures { λ r. ⌜ r ≡ entryOf shape a p ⌝ }
 {
-    let l = line::line_of(shape, a);
-    p * l.sets + l.index
+    let at = shape.place(a);
+    p * shape.sets + at.index
 }
 
 // One word of a slice.

@@ -2,50 +2,51 @@
 use borrow.Author.Needs.{needs}
 use Prim.Native.Nat.{_-_}
 use native.Mathlib.Omega.{arith}
-use Rattle.ports.specs.Survey.{holdsIn}
-use Rattle.ports.proofs.Places.{in-one, in-two}
+use mathlib.Core.List.{[]}
+use Rattle.model.specs.Tables.{model, holds}
+use Rattle.find.proofs.Links.{entry-there, entry-small}
 use Rattle.find.proofs.Holders.{Searching, searching-none, searching-found, searching-more, searching-done}
 use Rattle.find.proofs.first_holder.Statement.{statement}
 use Rattle.find.proofs.first_holder.Tie as tie
 
 abbrev Inv-loop : tie.InvT-loop
-Inv-loop tags states line ports sets p₀ p = Searching (holdsIn line tags states) (line .ports) p
+Inv-loop shape tags states a at p₀ p = Searching (holds shape (model [] tags states []) a) (shape .ports) p
 
 abbrev μ-loop : tie.MeasureT-loop
-μ-loop tags states line ports sets p₀ p = ports - p
+μ-loop shape tags states a at p₀ p = shape .ports - p
 
 loop-holds : tie.Need-loop-holds Inv-loop μ-loop
 loop-holds c = searching-none _ _
 
 mul-k : tie.Need-mul-k Inv-loop μ-loop
-mul-k c = omega (arith, in-one (c .before .before .before .before .pre) (c .before .loop .p) (c .loop-test .taken))
+mul-k c = omega (arith, entry-small _ _ (c .before .before .before .loop .p) (c .before .before .before .before .place .ensures) (c .before .before .before .before .before .before .before .pre .0 .0) (c .before .if1 .taken))
 
 add-k : tie.Need-add-k Inv-loop μ-loop
-add-k c = omega (arith, in-one (c .before .before .before .before .before .pre) (c .before .before .loop .p) (c .before .loop-test .taken))
+add-k c = omega (arith, entry-small _ _ (c .before .before .before .before .loop .p) (c .before .before .before .before .before .place .ensures) (c .before .before .before .before .before .before .before .before .pre .0 .0) (c .before .before .if1 .taken))
 
 mul-here : tie.Need-mul-here Inv-loop μ-loop
-mul-here c = omega (arith, in-one (c .before .before .before .before .before .pre) (c .before .before .loop .p) (c .before .loop-test .taken))
+mul-here c = omega (arith, entry-small _ _ (c .before .before .before .before .loop .p) (c .before .before .before .before .before .place .ensures) (c .before .before .before .before .before .before .before .before .pre .0 .0) (c .before .before .if1 .taken))
 
 shared-slice-read-here : tie.Need-shared-slice-read-here Inv-loop μ-loop
-shared-slice-read-here c = in-one (c .before .before .before .before .before .before .pre) (c .before .before .before .loop .p) (c .before .before .loop-test .taken)
+shared-slice-read-here c = omega (arith, entry-there _ _ (c .before .before .before .before .before .loop .p) (c .before .before .before .before .before .before .place .ensures) (c .before .before .before .before .before .before .before .before .before .pre .0 .0) (c .before .before .before .if1 .taken), c .before .before .before .before .before .before .before .before .before .pre .1 .0)
 
 shared-slice-read-byte-state : tie.Need-shared-slice-read-byte-state Inv-loop μ-loop
-shared-slice-read-byte-state c = in-two (c .before .before .before .before .before .before .before .before .pre) (c .before .before .before .before .before .loop .p) (c .before .before .before .before .loop-test .taken)
+shared-slice-read-byte-state c = omega (arith, entry-there _ _ (c .before .before .before .before .before .before .before .loop .p) (c .before .before .before .before .before .before .before .before .place .ensures) (c .before .before .before .before .before .before .before .before .before .before .before .pre .0 .0) (c .before .before .before .before .before .if1 .taken), c .before .before .before .before .before .before .before .before .before .before .before .pre .1 .1)
 
 returns : tie.Need-returns Inv-loop μ-loop
-returns c = searching-found _ _ _ _ (c .before .before .before .before .before .before .before .before .loop .inv) (c .before .before .before .before .before .before .before .loop-test .taken) (c .before .before .byte-state .ensures) (c .before .is-valid .ensures) (c .if1 .taken)
+returns c = searching-found _ _ _ _ _ (c .before .before .before .before .before .before .before .before .before .before .before .place .ensures) (c .before .before .byte-state .ensures) (c .before .is-valid .ensures) (c .before .before .before .before .before .before .before .before .before .before .loop .inv) (c .before .before .before .before .before .before .before .before .if1 .taken) (c .if2 .taken)
 
 add-p : tie.Need-add-p Inv-loop μ-loop
-add-p c = omega (arith, c .before .before .before .before .before .before .before .loop-test .taken)
+add-p c = omega (arith, c .before .before .before .before .before .before .before .before .if1 .taken)
 
 loop-less : tie.Need-loop-less Inv-loop μ-loop
-loop-less c = omega (arith, c .before .before .before .before .before .before .before .loop-test .taken)
+loop-less c = omega (arith, c .before .before .before .before .before .before .before .before .if1 .taken)
 
 loop-again : tie.Need-loop-again Inv-loop μ-loop
-loop-again c = searching-more _ _ _ _ (c .before .before .before .before .before .before .before .before .loop .inv) (c .before .before .before .before .before .before .before .loop-test .taken) (c .before .before .byte-state .ensures) (c .before .is-valid .ensures) (c .if1 .left)
+loop-again c = searching-more _ _ _ _ _ (c .before .before .before .before .before .before .before .before .before .before .before .place .ensures) (c .before .before .byte-state .ensures) (c .before .is-valid .ensures) (c .before .before .before .before .before .before .before .before .before .before .loop .inv) (c .before .before .before .before .before .before .before .before .if1 .taken) (c .if2 .left)
 
 returns-2 : tie.Need-returns-2 Inv-loop μ-loop
-returns-2 c = searching-done (c .before .loop .inv) (c .loop-test .left)
+returns-2 c = searching-done (c .before .before .loop .inv) (c .if1 .left)
 
 pub first-holder-spec : {M : Type 1} → statement M
 first-holder-spec =
@@ -53,6 +54,7 @@ first-holder-spec =
     (tie.spec
     Inv-loop
     μ-loop
+    (λ c κs. search needs)
     loop-holds
     mul-k
     add-k

@@ -1,0 +1,67 @@
+-- The loop keeps that every entry passed is sound. Assumes nothing.
+use borrow.Author.Needs.{needs}
+use Prim.Native.Nat.{_-_}
+use native.Mathlib.Omega.{arith}
+use Rattle.find.proofs.Links.{entry-there, entry-small}
+use Rattle.find.proofs.Holders.{Passing, soundBy, passing-none, passing-not, passing-more, passing-done}
+use Rattle.find.proofs.column_sound.Statement.{statement}
+use Rattle.find.proofs.column_sound.Tie as tie
+
+abbrev Inv-loop : tie.InvT-loop
+Inv-loop shape tags states a at q₀ q = Passing (soundBy shape tags states a) (shape .ports) q
+
+abbrev μ-loop : tie.MeasureT-loop
+μ-loop shape tags states a at q₀ q = shape .ports - q
+
+loop-holds : tie.Need-loop-holds Inv-loop μ-loop
+loop-holds c = passing-none _ _
+
+mul-k : tie.Need-mul-k Inv-loop μ-loop
+mul-k c = omega (arith, entry-small _ _ (c .before .before .before .loop .q) (c .before .before .before .before .place .ensures) (c .before .before .before .before .before .before .before .pre .0 .0) (c .before .if1 .taken))
+
+add-k : tie.Need-add-k Inv-loop μ-loop
+add-k c = omega (arith, entry-small _ _ (c .before .before .before .before .loop .q) (c .before .before .before .before .before .place .ensures) (c .before .before .before .before .before .before .before .before .pre .0 .0) (c .before .before .if1 .taken))
+
+shared-slice-read-is-sound : tie.Need-shared-slice-read-is-sound Inv-loop μ-loop
+shared-slice-read-is-sound c = omega (arith, entry-there _ _ (c .before .before .before .before .before .loop .q) (c .before .before .before .before .before .before .place .ensures) (c .before .before .before .before .before .before .before .before .before .pre .0 .0) (c .before .before .before .if1 .taken), c .before .before .before .before .before .before .before .before .before .pre .1 .1)
+
+mul-is-sound : tie.Need-mul-is-sound Inv-loop μ-loop
+mul-is-sound c = omega (arith, entry-small _ _ (c .before .before .before .before .before .loop .q) (c .before .before .before .before .before .before .place .ensures) (c .before .before .before .before .before .before .before .before .before .pre .0 .0) (c .before .before .before .if1 .taken))
+
+shared-slice-read-is-sound-2 : tie.Need-shared-slice-read-is-sound-2 Inv-loop μ-loop
+shared-slice-read-is-sound-2 c = omega (arith, entry-there _ _ (c .before .before .before .before .before .before .loop .q) (c .before .before .before .before .before .before .before .place .ensures) (c .before .before .before .before .before .before .before .before .before .before .pre .0 .0) (c .before .before .before .before .if1 .taken), c .before .before .before .before .before .before .before .before .before .before .pre .1 .0)
+
+returns : tie.Need-returns Inv-loop μ-loop
+returns c = passing-not _ _ _ _ _ (c .before .before .before .before .before .before .before .before .before .place .ensures) (c .before .before .before .before .before .before .before .before .before .before .before .before .pre .0 .0) (c .before .is-sound .ensures) (c .before .before .before .before .before .before .before .before .loop .inv) (c .before .before .before .before .before .before .if1 .taken) (c .if2 .taken)
+
+add-q : tie.Need-add-q Inv-loop μ-loop
+add-q c = omega (arith, c .before .before .before .before .before .before .if1 .taken)
+
+loop-less : tie.Need-loop-less Inv-loop μ-loop
+loop-less c = omega (arith, c .before .before .before .before .before .before .if1 .taken)
+
+loop-again : tie.Need-loop-again Inv-loop μ-loop
+loop-again c = passing-more _ _ _ _ _ (c .before .before .before .before .before .before .before .before .before .place .ensures) (c .before .before .before .before .before .before .before .before .before .before .before .before .pre .0 .0) (c .before .is-sound .ensures) (c .before .before .before .before .before .before .before .before .loop .inv) (c .before .before .before .before .before .before .if1 .taken) (c .if2 .left)
+
+returns-2 : tie.Need-returns-2 Inv-loop μ-loop
+returns-2 c = passing-done _ _ _ _ _ (c .before .before .before .place .ensures) (c .before .before .loop .inv) (c .if1 .left)
+
+pub column-sound-spec : {M : Type 1} → statement M
+column-sound-spec =
+    tie.close
+    (tie.spec
+    Inv-loop
+    μ-loop
+    (λ c κs. search needs)
+    loop-holds
+    mul-k
+    add-k
+    shared-slice-read-is-sound
+    mul-is-sound
+    shared-slice-read-is-sound-2
+    (λ c κs. search needs)
+    returns
+    add-q
+    loop-less
+    loop-again
+    returns-2)
