@@ -28,7 +28,7 @@ use Rattle.ports.specs.declared.line.Line.{Line}
 use Rattle.ports.specs.Line.{lineOf}
 use Rattle.packed.specs.Packed.{Packed, wordIn}
 use Rattle.packed_step.specs.Bytes.{Bytes, bytes, modelIn, Fitting}
-use Rattle.packed_step.proofs.Bytes.{lent}
+use Rattle.packed_step.proofs.Bytes.{lent, refitted}
 use Rattle.moesi.specs.Host.{inBytes, bytesFit, refusalBy, hostRefusal, answerBytes, hosted, hostStep, hostFresh, hostAudit}
 
 -- Refusal 0: the slices fit the shape.
@@ -76,10 +76,6 @@ fitting s b out e =
         words-fit = eqb-true _ _ (and-r (m && g && h) d z);
       };
     }
-
-refitted : {s : Shape} {b : Bytes} (b' : Bytes) → Fitting s b → length (b' .memory) ≡ length (b .memory) → length (b' .tags) ≡ length (b .tags) → length (b' .states) ≡ length (b .states)
-    → length (b' .words) ≡ length (b .words) → Fitting s b'
-refitted b' f em eg eh ed = record { range = f .range; memory-fits = em ∙ f .memory-fits; filled = record { tags-fit = eg ∙ f .filled .tags-fit; states-fit = eh ∙ f .filled .states-fit; words-fit = ed ∙ f .filled .words-fit } }
 
 -- Every byte of a slice is below 256.
 abbrev pub AreBytes : List ℕ → Type 0

@@ -26,6 +26,11 @@ pub stored : (n : ℕ) (m : List ℕ) {m' : List ℕ} {on : Bool} {k w : ℕ} �
     → numbers 8 n m' ≡ store on k w (numbers 8 n m)
 stored n m {k = k} {w = w} o l q f e = rw (o, e) (set-numbers 8 n k w m q (omega arith) (omega (arith, l)))
 
+-- No call changes the length of a slice.
+pub refitted : {s : Shape} {b : Bytes} (b' : Bytes) → Fitting s b → length (b' .memory) ≡ length (b .memory) → length (b' .tags) ≡ length (b .tags) → length (b' .states) ≡ length (b .states)
+    → length (b' .words) ≡ length (b .words) → Fitting s b'
+refitted b' f em eg eh ed = record { range = f .range; memory-fits = em ∙ f .memory-fits; filled = record { tags-fit = eg ∙ f .filled .tags-fit; states-fit = eh ∙ f .filled .states-fit; words-fit = ed ∙ f .filled .words-fit } }
+
 module _ {s : Shape} {b : Bytes} (f : Fitting s b) where
   -- The model that fitting bytes hold is accepted.
   pub lent : lentRefusal s (modelIn s b) ≡ 0

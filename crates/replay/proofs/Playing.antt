@@ -1,28 +1,29 @@
 -- What a trace yields, from what the code's parts yield. Assumes nothing.
-use Prim.Native.Nat.{ℕ, zero, suc, _≤_}
+use Prim.Native.Nat.{ℕ, zero, suc, _*_, _-_, _≤_}
 use mathlib.Core.Path.{_≡_, refl, ap, _∙_}
 use mathlib.Core.Logic.{_≢_}
 use mathlib.Core.Bool.{Bool, true}
 use mathlib.Core.List.{List, _∷_}
 use native.Mathlib.Omega.{arith}
-use lib.ListN.{take, replicate}
+use lib.ListN.{length, take, drop, replicate, length-replicate}
 use borrow.Author.Tests.{eq-eqb, ne-eqb}
 use Rattle.model.specs.declared.shape.Shape.{Shape}
 use Rattle.model.specs.Shape.{entries, inRange}
-use Rattle.model.specs.Tables.{Model, model}
+use Rattle.model.specs.Tables.{Model, lentRefusal}
 use Rattle.model.specs.Fresh.{zeroed}
-use Rattle.model.specs.Audit.{audit}
+use Rattle.model.specs.Audit.{tablesPass, audit}
+use Rattle.endian.specs.Little.{number, numbers}
+use Rattle.packed_step.specs.Bytes.{Bytes, bytes, modelIn, Fitting}
+use Rattle.packed_step.proofs.Bytes.{lent}
 use Rattle.model.proofs.Bounds.{bounded}
-use Rattle.audit.specs.declared.Verdict.{Verdict}
-use Rattle.audit.specs.Verdict.{verdictOf}
 use Rattle.replay.specs.declared.Played.{Played}
 use Rattle.model.specs.Marks.{modelRun}
 use Rattle.replay.specs.Trace.{shapeIn, ordersIn, traceRefusal, ordersOf, traceOrders, answersTo, placed, start, refused, played, answersOf}
 use Rattle.replay.proofs.Refusing.{whole}
 
-pub audit-passes : (s : Shape) {t u : Model} {v : Verdict} → v ≡ verdictOf s t → t ≡ u → v .passes ≡ audit s u
-unfolding verdictOf
-audit-passes s e f = rw (e, f)
+pub audit-passes : (s : Shape) {b : Bytes} {t : Model} {p : Bool} → Fitting s b → p ≡ tablesPass s (modelIn s b) → modelIn s b ≡ t → p ≡ audit s t
+unfolding audit
+audit-passes s {b} {t} f e g = e ∙ rw (eq-eqb (lentRefusal s t) 0 (rw g at (lent {s = s} {b = b} f)), g)
 
 -- Prefixes of zeros are the start.
 zeros : (k n : ℕ) → k ≤ n → _≡_ {A = List ℕ} (take k (replicate n 0)) (replicate k 0)
@@ -30,17 +31,54 @@ zeros zero n h = refl
 zeros (suc k) zero h = absurd (omega arith)
 zeros (suc k) (suc n) h = ap (λ (l : List ℕ). 0 ∷ l) (zeros k n (omega arith))
 
+-- Numbers in bytes of zeros are zeros.
+drop-zeros : (w n : ℕ) → _≡_ {A = List ℕ} (drop w (replicate n 0)) (replicate (n - w) 0)
+drop-zeros zero n = let e : n - 0 ≡ n = omega arith in rw e
+drop-zeros (suc w) zero = let e : 0 - suc w ≡ 0 = omega arith in rw e
+drop-zeros (suc w) (suc n) = let e : suc n - suc w ≡ n - w = omega arith in rw e (drop-zeros w n)
+
+number-zeros : (w n : ℕ) → number w (replicate n 0) ≡ 0
+unfolding number
+number-zeros zero n = refl
+number-zeros (suc w) zero = rw (drop-zeros 1 0) (omega (arith, number-zeros w 0))
+number-zeros (suc w) (suc n) = rw (drop-zeros 1 (suc n)) (omega (arith, number-zeros w (suc n - 1)))
+
+numbers-zeros : (w k n : ℕ) → numbers w k (replicate n 0) ≡ replicate k 0
+unfolding numbers
+numbers-zeros w zero n = refl
+numbers-zeros w (suc k) n = rw (number-zeros w n, drop-zeros w n, numbers-zeros w k (n - w))
+
 module _ (s : Shape) (h : inRange s ≡ true) where
-  pub lines-few : s .lines ≤ 4096
-  lines-few = bounded s h .lines
+  pub memory-few : 8 * s .lines ≤ 32768
+  memory-few = omega (arith, bounded s h .lines)
 
   module _ {n : ℕ} (e : n ≡ entries s) where
     pub entries-few : n ≤ 512
     entries-few = omega (arith, e, bounded s h .entries-most)
 
-    pub start-is : model (take (s .lines) (replicate 4096 0)) (take n (replicate 512 0)) (take n (replicate 512 0)) (take n (replicate 512 0)) ≡ start s
-    unfolding start zeroed
-    start-is = rw (zeros (s .lines) 4096 lines-few, zeros n 512 entries-few, e)
+    -- The zeros that are lent.
+    abbrev pub zeroBytes : Bytes
+    zeroBytes = bytes (take (8 * s .lines) (replicate 32768 0)) (take (4 * n) (replicate 2048 0)) (take n (replicate 512 0)) (take (8 * n) (replicate 4096 0))
+
+    prefix : (k m : ℕ) → k ≤ m → length (take k (replicate {A = ℕ} m 0)) ≡ k
+    prefix k m l = rw (zeros k m l) (length-replicate k 0)
+
+    pub start-fits : Fitting s zeroBytes
+    start-fits = record {
+      range = h;
+      memory-fits = prefix (8 * s .lines) 32768 memory-few;
+      filled = record {
+        tags-fit = prefix (4 * n) 2048 (omega (arith, entries-few)) ∙ ap (λ (x : ℕ). 4 * x) e;
+        states-fit = prefix n 512 entries-few ∙ e;
+        words-fit = prefix (8 * n) 4096 (omega (arith, entries-few)) ∙ ap (λ (x : ℕ). 8 * x) e;
+      };
+    }
+
+    pub start-is : modelIn s zeroBytes ≡ start s
+    unfolding start zeroed modelIn
+    start-is =
+        rw (zeros (8 * s .lines) 32768 memory-few, zeros (4 * n) 2048 (omega (arith, entries-few)), zeros n 512 entries-few, zeros (8 * n) 4096 (omega (arith, entries-few)),
+        numbers-zeros 8 (s .lines) (8 * s .lines), numbers-zeros 4 (entries s) (4 * n), numbers-zeros 8 (entries s) (8 * n), e)
 
 -- The parts that are lent are those of the trace.
 pub parts-played : (s : Shape) (n : ℕ) (a₀ : List ℕ) {us vs ws xs : List ℕ} → us ≡ ws → vs ≡ xs → {t u : Model} → t ≡ u

@@ -7,9 +7,9 @@ ghost use Prim.Native.Nat.{_+_, _*_, _<_, _≤_, _^_};
 ghost use lib.ListN.{length};
 ghost use lib.Seq.{sets};
 ghost use Rattle.model.specs.Shape.{inRange};
-ghost use Rattle.model.specs.Tables.{model};
 ghost use Rattle.model.specs.Audit.{audit};
 ghost use Rattle.model.specs.Marks.{modelRun};
+ghost use Rattle.packed_step.specs.Bytes.{bytes, modelIn, Fitting};
 ghost use Rattle.replay.specs.Trace.{shapeIn, ordersIn, traceRefusal, ordersOf, traceOrders, five, answersTo, placed, start, refused, played, answersOf};
 
 // The most orders that a trace may say, and the numbers of their answers, five to an order.
@@ -80,25 +80,26 @@ fn put_answer(answers: &mut [u64], at: usize, a: Answer)
 // The first n orders of two parallel arrays, the words and the operands: each answer is stored behind the one before.
 fn run_orders(
     shape: Shape,
-    memory: &mut [u64],
-    tags: &mut [u32],
+    memory: &mut [u8],
+    tags: &mut [u8],
     states: &mut [u8],
-    data: &mut [u64],
+    data: &mut [u8],
     words: &[u8],
     operands: &[u8],
     n: usize,
     answers: &mut [u64],
 )
+    requires { ⌜ Fitting shape (bytes (now memory) (now tags) (now states) (now «data»)) ⌝ }
     requires { ⌜ (8 * n ≤ length (now words)) × (8 * n ≤ length (now operands)) ⌝ }
     requires { ⌜ 5 * n ≤ length (now answers) ⌝ }
-    ensures { λ r. ⌜ model (now (memory .exit)) (now (tags .exit)) (now (states .exit)) (now («data» .exit)) ≡ modelRun shape (ordersOf (now (words .entry)) (now (operands .entry)) 0 n) (model (now (memory .entry)) (now (tags .entry)) (now (states .entry)) (now («data» .entry))) ⌝ }
-    ensures { λ r. ⌜ now (answers .exit) ≡ placed (answersTo shape (ordersOf (now (words .entry)) (now (operands .entry)) 0 n) (model (now (memory .entry)) (now (tags .entry)) (now (states .entry)) (now («data» .entry)))) (now (answers .entry)) ⌝ }
+    ensures { λ r. ⌜ modelIn shape (bytes (now (memory .exit)) (now (tags .exit)) (now (states .exit)) (now («data» .exit))) ≡ modelRun shape (ordersOf (now (words .entry)) (now (operands .entry)) 0 n) (modelIn shape (bytes (now (memory .entry)) (now (tags .entry)) (now (states .entry)) (now («data» .entry)))) ⌝ }
+    ensures { λ r. ⌜ now (answers .exit) ≡ placed (answersTo shape (ordersOf (now (words .entry)) (now (operands .entry)) 0 n) (modelIn shape (bytes (now (memory .entry)) (now (tags .entry)) (now (states .entry)) (now («data» .entry))))) (now (answers .entry)) ⌝ }
 {
     let mut k = 0;
     while k < n {
         let w = endian::read_eight(words, 8 * k);
         let x = endian::read_eight(operands, 8 * k);
-        let a = step::step_order(shape, memory, tags, states, data, w, x);
+        let a = packed_step::step_bytes(shape, memory, tags, states, data, w, x);
         put_answer(answers, 5 * k, a);
         k += 1;
     }
@@ -107,19 +108,20 @@ fn run_orders(
 // The orders, and then the audit of what they leave.
 fn run_and_audit(
     shape: Shape,
-    memory: &mut [u64],
-    tags: &mut [u32],
+    memory: &mut [u8],
+    tags: &mut [u8],
     states: &mut [u8],
-    data: &mut [u64],
+    data: &mut [u8],
     words: &[u8],
     operands: &[u8],
     n: usize,
     answers: &mut [u64],
 ) -> bool
+    requires { ⌜ Fitting shape (bytes (now memory) (now tags) (now states) (now «data»)) ⌝ }
     requires { ⌜ (8 * n ≤ length (now words)) × (8 * n ≤ length (now operands)) ⌝ }
     requires { ⌜ 5 * n ≤ length (now answers) ⌝ }
-    ensures { λ r. ⌜ r ≡ audit shape (modelRun shape (ordersOf (now (words .entry)) (now (operands .entry)) 0 n) (model (now (memory .entry)) (now (tags .entry)) (now (states .entry)) (now («data» .entry)))) ⌝ }
-    ensures { λ r. ⌜ now (answers .exit) ≡ placed (answersTo shape (ordersOf (now (words .entry)) (now (operands .entry)) 0 n) (model (now (memory .entry)) (now (tags .entry)) (now (states .entry)) (now («data» .entry)))) (now (answers .entry)) ⌝ }
+    ensures { λ r. ⌜ r ≡ audit shape (modelRun shape (ordersOf (now (words .entry)) (now (operands .entry)) 0 n) (modelIn shape (bytes (now (memory .entry)) (now (tags .entry)) (now (states .entry)) (now («data» .entry))))) ⌝ }
+    ensures { λ r. ⌜ now (answers .exit) ≡ placed (answersTo shape (ordersOf (now (words .entry)) (now (operands .entry)) 0 n) (modelIn shape (bytes (now (memory .entry)) (now (tags .entry)) (now (states .entry)) (now («data» .entry))))) (now (answers .entry)) ⌝ }
 {
     run_orders(
         shape,
@@ -132,7 +134,7 @@ fn run_and_audit(
         n,
         answers,
     );
-    audit::audit_tables(shape, memory, tags, states, data).passes
+    packed_audit::tables_pass(shape, memory, tags, states, data)
 }
 
 // The orders of a trace that is not refused, on memory and tables of zeros. The operands are the part of the trace that starts in its
@@ -143,19 +145,21 @@ fn play_orders(shape: Shape, orders: usize, trace: &[u8], answers: &mut [u64; MA
     ensures { λ r. ⌜ r ≡ audit shape (modelRun shape (traceOrders orders (now (trace .entry))) (start shape)) ⌝ }
     ensures { λ r. ⌜ now (answers .exit) ≡ placed (answersTo shape (traceOrders orders (now (trace .entry))) (start shape)) (now (answers .entry)) ⌝ }
 {
-    let lines = shape.lines;
     let n = shape.entries();
-    let mut memory = [0u64; Shape::MAX_LINES];
-    let mut tags = [0u32; Shape::MAX_PORTS * Shape::MAX_SETS];
+    let memory_bytes = 8 * shape.lines;
+    let tag_bytes = 4 * n;
+    let data_bytes = 8 * n;
+    let mut memory = [0u8; 8 * Shape::MAX_LINES];
+    let mut tags = [0u8; 4 * Shape::MAX_PORTS * Shape::MAX_SETS];
     let mut states = [0u8; Shape::MAX_PORTS * Shape::MAX_SETS];
-    let mut data = [0u64; Shape::MAX_PORTS * Shape::MAX_SETS];
+    let mut data = [0u8; 8 * Shape::MAX_PORTS * Shape::MAX_SETS];
     let middle = 16 + 8 * orders;
     run_and_audit(
         shape,
-        &mut memory[..lines],
-        &mut tags[..n],
+        &mut memory[..memory_bytes],
+        &mut tags[..tag_bytes],
         &mut states[..n],
-        &mut data[..n],
+        &mut data[..data_bytes],
         &trace[16..],
         &trace[middle..],
         orders,

@@ -1,51 +1,68 @@
 -- The loop runs order after order. Assumes nothing.
 use Prim.Native.Nat.{_-_}
 use native.Mathlib.Omega.{arith}
-use borrow.Author.Needs.{needs}
-use Rattle.model.specs.Tables.{model}
+use Rattle.packed_step.specs.Bytes.{bytes}
 use Rattle.replay.proofs.Running.{Running, running-none, running-more, running-done}
 use Rattle.replay.proofs.run_orders.Statement.{statement}
 use Rattle.replay.proofs.run_orders.Tie as tie
 
 abbrev Inv-loop : tie.InvT-loop
-Inv-loop shape memory₀ tags₀ states₀ data₀ words operands n answers₀ k₀ memory tags states «data» answers k =
-    Running shape words operands n (model memory₀ tags₀ states₀ data₀) answers₀ (model memory tags states «data») answers k
+Inv-loop shape memory₀ tags₀ states₀ data₀ words operands n answers₀ k₀ memory tags states «data» answers k = Running shape words operands n (bytes memory₀ tags₀ states₀ data₀) answers₀ (bytes memory tags states «data») answers k
 
 abbrev μ-loop : tie.MeasureT-loop
-μ-loop shape memory₀ tags₀ states₀ data₀ words operands n answers₀ k₀ memory tags states «data» answers k =
-    n - k
+μ-loop shape memory₀ tags₀ states₀ data₀ words operands n answers₀ k₀ memory tags states «data» answers k = n - k
 
 loop-holds : tie.Need-loop-holds Inv-loop μ-loop
-loop-holds c = running-none _ _ _ _ _ _
+loop-holds c = running-none _ _ _ _ _ _ (c .before .before .before .before .before .before .before .pre .0)
+
+mul-read-eight : tie.Need-mul-read-eight Inv-loop μ-loop
+mul-read-eight c = omega (arith, c .loop-test .taken, c .before .before .before .before .before .before .before .before .before .pre .1)
+
+read-eight-requires : tie.Need-read-eight-requires Inv-loop μ-loop
+read-eight-requires c κs = omega (arith, c .loop-test .taken, c .before .before .before .before .before .before .before .before .before .pre .1)
+
+mul-read-eight-2 : tie.Need-mul-read-eight-2 Inv-loop μ-loop
+mul-read-eight-2 c = omega (arith, c .before .loop-test .taken, c .before .before .before .before .before .before .before .before .before .before .pre .1)
+
+read-eight-requires-2 : tie.Need-read-eight-requires-2 Inv-loop μ-loop
+read-eight-requires-2 c κs = omega (arith, c .before .loop-test .taken, c .before .before .before .before .before .before .before .before .before .before .pre .1)
+
+step-bytes-requires : tie.Need-step-bytes-requires Inv-loop μ-loop
+step-bytes-requires c κs = c .before .before .before .before .before .before .before .loop .inv .fits
 
 mul-put-answer : tie.Need-mul-put-answer Inv-loop μ-loop
-mul-put-answer c = omega (arith, c .before .before .before .before .before .before .before .before .before .before .before .before .before .before .before .before .loop-test .taken, c .before .before .before .before .before .before .before .before .before .before .before .before .before .before .before .before .before .before .before .before .before .before .before .before .before .pre, c .before .before .before .before .before .before .before .before .before .before .before .before .before .before .before .before .before .before .before .before .before .before .before .before .before .good)
+mul-put-answer c = omega (arith, c .before .before .before .before .before .before .before .before .before .before .before .before .before .before .before .before .loop-test .taken, c .before .before .before .before .before .before .before .before .before .before .before .before .before .before .before .before .before .before .before .before .before .before .before .before .before .pre .1, c .before .before .before .before .before .before .before .before .before .before .before .before .before .before .before .before .before .before .before .before .before .before .before .before .before .good)
+
+put-answer-requires : tie.Need-put-answer-requires Inv-loop μ-loop
+put-answer-requires c κs = omega (arith, c .before .before .before .before .before .before .before .before .before .before .before .before .before .before .before .before .loop-test .taken, c .before .before .before .before .before .before .before .before .before .before .before .before .before .before .before .before .before .before .before .before .before .before .before .before .before .pre .1, c .before .before .before .before .before .before .before .before .before .before .before .before .before .before .before .before .before .loop .inv .same)
 
 add-k : tie.Need-add-k Inv-loop μ-loop
 add-k c = omega (arith, c .before .before .before .before .before .before .before .before .before .before .before .before .before .before .before .before .before .before .before .loop-test .taken, c .before .before .before .before .before .before .before .before .before .before .before .before .before .before .before .before .before .before .before .before .before .before .before .before .before .before .before .before .fits)
 
+loop-less : tie.Need-loop-less Inv-loop μ-loop
+loop-less c = omega (arith, c .before .before .before .before .before .before .before .before .before .before .before .before .before .before .before .before .before .before .before .loop-test .taken)
+
 loop-again : tie.Need-loop-again Inv-loop μ-loop
-loop-again c =
-    running-more _ _ _ _ (c .before .before .before .before .before .before .before .before .before .before .before .before .before .before .before .before .before .before .before .before .loop .inv) (c .before .before .before .before .before .before .before .before .before .before .before .before .before .before .before .before .before .before .before .loop-test .taken) (c .before .before .before .before .before .before .before .before .before .before .before .before .before .before .before .before .before .before .read-eight .ensures) (c .before .before .before .before .before .before .before .before .before .before .before .before .before .before .before .before .before .read-eight2 .ensures) (c .before .before .before .before .before .before .before .before .before .before .before .before .step-order .ensures)
-    (record { memory = c .before .before .before .before .before .before .before .before .before .before .before .before .step-order .kept .1 .0; tags = c .before .before .before .before .before .before .before .before .before .before .before .before .step-order .kept .1 .1 .0; states = c .before .before .before .before .before .before .before .before .before .before .before .before .step-order .kept .1 .1 .1 .0; words = c .before .before .before .before .before .before .before .before .before .before .before .before .step-order .kept .1 .1 .1 .1 .0 }) (c .before .before .put-answer .ensures)
+loop-again c = let e = c .before .before .before .before .before .before .before .before .before .before .before .before .step-bytes .kept in
+    running-more _ _ _ _ (c .before .before .before .before .before .before .before .before .before .before .before .before .before .before .before .before .before .before .before .before .loop .inv) (c .before .before .before .before .before .before .before .before .before .before .before .before .before .before .before .before .before .before .before .loop-test .taken) (c .before .before .before .before .before .before .before .before .before .before .before .before .before .before .before .before .before .before .read-eight .ensures) (c .before .before .before .before .before .before .before .before .before .before .before .before .before .before .before .before .before .read-eight2 .ensures) _ (c .before .before .before .before .before .before .before .before .before .before .before .before .step-bytes .ensures) (e .1 .0) (e .1 .1 .0) (e .1 .1 .1 .0) (e .1 .1 .1 .1 .0) (c .before .before .put-answer .ensures)
 
 same-length : tie.Need-same-length Inv-loop μ-loop
-same-length c = c .before .loop .inv .lengths .memory
+same-length c = omega (arith, c .before .loop .inv .fits .memory-fits, c .before .before .before .before .before .before .before .before .before .pre .0 .memory-fits)
 
 same-length-2 : tie.Need-same-length-2 Inv-loop μ-loop
-same-length-2 c = c .before .loop .inv .lengths .tags
+same-length-2 c = omega (arith, c .before .loop .inv .fits .filled .tags-fit, c .before .before .before .before .before .before .before .before .before .pre .0 .filled .tags-fit)
 
 same-length-3 : tie.Need-same-length-3 Inv-loop μ-loop
-same-length-3 c = c .before .loop .inv .lengths .states
+same-length-3 c = omega (arith, c .before .loop .inv .fits .filled .states-fit, c .before .before .before .before .before .before .before .before .before .pre .0 .filled .states-fit)
 
 same-length-4 : tie.Need-same-length-4 Inv-loop μ-loop
-same-length-4 c = c .before .loop .inv .lengths .words
+same-length-4 c = omega (arith, c .before .loop .inv .fits .filled .words-fit, c .before .before .before .before .before .before .before .before .before .pre .0 .filled .words-fit)
 
 same-length-5 : tie.Need-same-length-5 Inv-loop μ-loop
 same-length-5 c = c .before .loop .inv .same
 
 returns : tie.Need-returns Inv-loop μ-loop
-returns c = running-done _ _ _ _ (c .before .loop .inv) (c .loop-test .left) (c .before .before .before .before .before .before .before .before .before .pre .1)
+returns c = running-done _ _ _ _ (c .before .loop .inv) (c .loop-test .left) (c .before .before .before .before .before .before .before .before .before .pre .1 .1)
 
 pub run-orders-spec : {M : Type 1} → statement M
 run-orders-spec =
@@ -54,15 +71,15 @@ run-orders-spec =
     Inv-loop
     μ-loop
     loop-holds
-    (λ c. omega arith)
-    (λ c κs. omega arith)
-    (λ c. omega arith)
-    (λ c κs. omega arith)
-    (λ c κs. search needs)
+    mul-read-eight
+    read-eight-requires
+    mul-read-eight-2
+    read-eight-requires-2
+    step-bytes-requires
     mul-put-answer
-    (λ c κs. omega arith)
+    put-answer-requires
     add-k
-    (λ c. omega arith)
+    loop-less
     loop-again
     same-length
     same-length-2
