@@ -1,6 +1,6 @@
-// Runs the fourteen orders of the scope, and then an order of each refusal, and prints for each its place, the five numbers, the state
-// bytes and the words of main memory; and, after each part, the audit and where a line's word stands. What it prints is kept in the file
-// stdout.
+// Runs the fourteen orders of the scope, and then an order of each refusal, through the C interface's functions, and prints for each its
+// place, the five numbers, the state bytes and the words of main memory; and, after each part, the audit and where a line's word stands.
+// What it prints is kept in the file stdout.
 use model::found::Found;
 use model::shape::Shape;
 
@@ -34,42 +34,67 @@ fn wide(b: u8) -> u64 {
     b as u64
 }
 
+// Words, and tags, as the bytes have them.
+fn two_words(bytes: &[u8; 16]) -> [u64; 2] {
+    [endian::read_eight(bytes, 0), endian::read_eight(bytes, 8)]
+}
+
+fn two_tags(bytes: &[u8; 8]) -> [u32; 2] {
+    [
+        endian::read_four(bytes, 0) as u32,
+        endian::read_four(bytes, 4) as u32,
+    ]
+}
+
 // One order: its place, the five numbers, the state bytes, main memory.
 fn show(
-    shape: Shape,
-    memory: &mut [u64],
-    tags: &mut [u32],
-    states: &mut [u8],
-    data: &mut [u64],
+    s: Shape,
+    memory: &mut [u8; 16],
+    tags: &mut [u8; 8],
+    states: &mut [u8; 2],
+    data: &mut [u8; 16],
     place: u64,
     w: u64,
     x: u64,
 ) {
-    let r = step::step_order(shape, memory, tags, states, data, w, x);
+    let mut answer = [0u8; 40];
+    moesi::moesi_step(
+        s.ports,
+        s.sets,
+        s.lines,
+        w,
+        x,
+        memory,
+        tags,
+        states,
+        data,
+        &mut answer,
+    );
     put(place);
-    put(r.refusal);
-    put(r.value);
-    put(r.swapped);
-    put(r.reads);
-    put(r.writes);
+    put(endian::read_eight(&answer, 0));
+    put(endian::read_eight(&answer, 8));
+    put(endian::read_eight(&answer, 16));
+    put(endian::read_eight(&answer, 24));
+    put(endian::read_eight(&answer, 32));
     put_states(states);
-    put_words(memory);
+    let words = two_words(memory);
+    put_words(&words);
 }
 
 // A list of orders, each a word and then its operand.
 fn run(
-    shape: Shape,
-    memory: &mut [u64],
-    tags: &mut [u32],
-    states: &mut [u8],
-    data: &mut [u64],
+    s: Shape,
+    memory: &mut [u8; 16],
+    tags: &mut [u8; 8],
+    states: &mut [u8; 2],
+    data: &mut [u8; 16],
     orders: &[u64],
 ) {
     let mut k = 0;
     let mut place: u64 = 1;
     while k + 1 < orders.len() {
         show(
-            shape,
+            s,
             memory,
             tags,
             states,
@@ -84,27 +109,26 @@ fn run(
 }
 
 // The audit's refusal, and 1 for yes.
-fn audited(memory: &[u64], tags: &[u32], states: &[u8], data: &[u64]) {
-    let s = Shape {
-        ports: 2,
-        sets: 1,
-        lines: 2,
-    };
-    let v = audit::audit_tables(s, memory, tags, states, data);
+fn audited(memory: &[u8; 16], tags: &[u8; 8], states: &[u8; 2], data: &[u8; 16]) {
+    let mut verdict = [0u8; 1];
+    let n = moesi::moesi_audit(2, 1, 2, memory, tags, states, data, &mut verdict);
     io::write_all(1, b"audit ");
-    put(v.refusal);
-    put(if v.passes { 1 } else { 0 });
+    put(n);
+    put(wide(verdict[0]));
     io::write_all(1, b"\n");
 }
 
-// Where line a's word stands, and the view of it.
-fn look<'a>(memory: &'a [u64], tags: &[u32], states: &[u8], data: &'a [u64], a: usize) {
+// Where line a's word stands, and the view of it: on words, as finding takes them.
+fn look(memory: &[u8; 16], tags: &[u8; 8], states: &[u8; 2], data: &[u8; 16], a: usize) {
     let s = Shape {
         ports: 2,
         sets: 1,
         lines: 2,
     };
-    let found = find::find_line(s, memory, tags, states, data, a);
+    let lines = two_words(memory);
+    let labels = two_tags(tags);
+    let words = two_words(data);
+    let found = find::find_line(s, &lines, &labels, states, &words, a);
     match found {
         Found::Refused(n) => {
             io::write_all(1, b"refused ");
@@ -118,20 +142,22 @@ fn look<'a>(memory: &'a [u64], tags: &[u32], states: &[u8], data: &'a [u64], a: 
             io::write_all(1, b"memory ");
         }
     }
-    put_words(find::view_line(s, memory, tags, states, data, a));
+    put_words(find::view_line(s, &lines, &labels, states, &words, a));
 }
 
 fn main() {
-    let mut memory = [5u64, 7];
-    let mut tags = [1u32; 2];
+    let mut memory = [0u8; 16];
+    endian::write_eight(&mut memory, 0, 5);
+    endian::write_eight(&mut memory, 8, 7);
+    let mut tags = [1u8; 8];
     let mut states = [1u8; 2];
-    let mut data = [1u64; 2];
+    let mut data = [1u8; 16];
     let s = Shape {
         ports: 2,
         sets: 1,
         lines: 2,
     };
-    fresh::make_fresh(s, &memory, &mut tags, &mut states, &mut data);
+    moesi::moesi_fresh(2, 1, 2, &memory, &mut tags, &mut states, &mut data);
 
     // Kind, mode, port, mask, line and compare value in the word, as the scope lists them.
     let fourteen = [

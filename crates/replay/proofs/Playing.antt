@@ -77,8 +77,16 @@ module _ (s : Shape) (h : inRange s ≡ true) where
     pub start-is : modelIn s zeroBytes ≡ start s
     unfolding start zeroed modelIn
     start-is =
-        rw (zeros (8 * s .lines) 32768 memory-few, zeros (4 * n) 2048 (omega (arith, entries-few)), zeros n 512 entries-few, zeros (8 * n) 4096 (omega (arith, entries-few)),
-        numbers-zeros 8 (s .lines) (8 * s .lines), numbers-zeros 4 (entries s) (4 * n), numbers-zeros 8 (entries s) (8 * n), e)
+        rw (
+          zeros (8 * s .lines) 32768 memory-few,
+          zeros (4 * n) 2048 (omega (arith, entries-few)),
+          zeros n 512 entries-few,
+          zeros (8 * n) 4096 (omega (arith, entries-few)),
+          numbers-zeros 8 (s .lines) (8 * s .lines),
+          numbers-zeros 4 (entries s) (4 * n),
+          numbers-zeros 8 (entries s) (8 * n),
+          e,
+        )
 
 -- The parts that are lent are those of the trace.
 pub parts-played : (s : Shape) (n : ℕ) (a₀ : List ℕ) {us vs ws xs : List ℕ} → us ≡ ws → vs ≡ xs → {t u : Model} → t ≡ u
