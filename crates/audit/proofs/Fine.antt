@@ -13,7 +13,7 @@ use Rattle.model.specs.declared.shape.Shape.{Shape}
 use Rattle.model.specs.Tables.{Model, stateAt, memoryAt}
 use Rattle.model.proofs.Below.{all-below, below-all, none-below, below-none}
 use Rattle.audit.specs.declared.Held.{Held}
-use Rattle.audit.specs.Entries.{classOf, isOwner, compatible, goesWith, heldAt, heldBy, pairPasses, belowPass, ownsAt, ownedAt, tablesOf, passesWith, entryPasses}
+use Rattle.audit.specs.Entries.{classOf, isOwner, compatible, goesWith, heldAt, heldBy, pairPasses, belowPass, ownsAt, ownedAt, passesWith, entryPasses}
 use Rattle.audit.proofs.Classes.{class-valid, class-owner, class-state, class-compatible, together, together-flip}
 
 -- `||` as a condition.
@@ -80,7 +80,7 @@ pub record Fine (s : Shape) (t : Model) (x p : ℕ) : Type 0 where
 
 module _ (s : Shape) (t : Model) (x p : ℕ) where
   abbrev entry : ℕ → Held
-  entry q = heldBy (s .sets) (tablesOf t) x q
+  entry q = heldBy s t x q
 
   abbrev pairBy : ℕ → Bool
   pairBy q = pairPasses (entry p) (entry q)
@@ -101,7 +101,7 @@ module _ (s : Shape) (t : Model) (x p : ℕ) where
   clean = eqb (wordBy s t x p) (memoryAt t (homeBy s t x p))
 
   abbrev goes : Bool
-  goes = belowPass (s .sets) (tablesOf t) x p (entry p) && (clean || isOwner (classBy p) || ownedAt s (t .tags) (t .states) x (tagBy s t x p))
+  goes = belowPass s t x p (entry p) && (clean || isOwner (classBy p) || ownedAt s (t .tags) (t .states) x (tagBy s t x p))
 
   -- Port q's entry owns the line of port p's.
   owns-q : (q : ℕ) → tagBy s t x q ≡ tagBy s t x p → Is (owner (stateBy s t x q)) → Is (ownsBy q)
@@ -157,8 +157,8 @@ module _ (s : Shape) (t : Model) (x p : ℕ) where
     goes-fine : p < s .ports → far ≡ false → Is goes → Fine s t x p
     unfolding belowPass ownedAt
     goes-fine hp n h =
-        let pairs = and-l (belowPass (s .sets) (tablesOf t) x p (entry p)) (clean || isOwner (classBy p) || owned) h in
-        let kept = and-r (belowPass (s .sets) (tablesOf t) x p (entry p)) (clean || isOwner (classBy p) || owned) h in
+        let pairs = and-l (belowPass s t x p (entry p)) (clean || isOwner (classBy p) || owned) h in
+        let kept = and-r (belowPass s t x p (entry p)) (clean || isOwner (classBy p) || owned) h in
         record {
           home = leb-false (s .lines) (homeBy s t x p) n;
           pairs = λ q l g w. pair-fits q (below-all pairBy p pairs q l) g w;

@@ -6,4 +6,3 @@ pub mod Passing
 pub mod Tested
 pub mod Fine
 pub mod Columns
-pub mod Verdicts

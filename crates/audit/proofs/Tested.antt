@@ -6,14 +6,13 @@ use mathlib.Core.Bool.{Bool, true, false, _||_, not}
 use lib.ListN.{getD}
 use lib.Dec.{eqb}
 use borrow.Author.Tests.{not-true, not-false, le-leb, lt-leb, eq-eqb, ne-eqb}
-use Rattle.ports.specs.Line.{Tables}
 use Rattle.model.specs.declared.shape.Shape.{Shape}
 use Rattle.model.specs.Tables.{Model, memoryAt}
 use Rattle.audit.specs.declared.Held.{Held}
-use Rattle.audit.specs.Entries.{heldAt, heldBy, goesWith, pairPasses, belowPass, ownedAt, isOwner, tablesOf, passesWith, entryPasses}
+use Rattle.audit.specs.Entries.{heldAt, heldBy, goesWith, pairPasses, belowPass, ownedAt, isOwner, passesWith, entryPasses}
 
 -- Another port's entry has another tag, or goes with e.
-module _ (e : Held) (t : Tables) (k : ℕ) where
+module _ (e : Held) (t : Model) (k : ℕ) where
   pub pair-away : getD (t .tags) k 0 ≢ e .tag → true ≡ pairPasses e (heldAt t k)
   unfolding pairPasses heldAt
   pair-away d = rw (ne-eqb (getD (t .tags) k 0) (e .tag) d)
@@ -24,7 +23,7 @@ module _ (e : Held) (t : Tables) (k : ℕ) where
 
 -- One entry: it is I or no state; its home line isn't there; a lower port's entry doesn't go with it; memory has its word or it is an
 -- owner; or there is no telling but from the other ports.
-module _ (s : Shape) (t : Model) (x p : ℕ) {e : Held} (g : e ≡ heldBy (s .sets) (tablesOf t) x p) where
+module _ (s : Shape) (t : Model) (x p : ℕ) {e : Held} (g : e ≡ heldBy s t x p) where
   pub tested-free : e .class < 8 → eqb (e .class) 0 ≡ entryPasses s t x p
   unfolding entryPasses passesWith
   tested-free l = rw (← g, lt-leb 8 (e .class) l)
@@ -34,7 +33,7 @@ module _ (s : Shape) (t : Model) (x p : ℕ) {e : Held} (g : e ≡ heldBy (s .se
     unfolding entryPasses passesWith
     tested-far l = rw (← g, le-leb 8 (e .class) v, ← a, le-leb (s .lines) home l)
 
-    module _ (l : home < s .lines) {b : Bool} (c : b ≡ belowPass (s .sets) (tablesOf t) x p e) where
+    module _ (l : home < s .lines) {b : Bool} (c : b ≡ belowPass s t x p e) where
       pub tested-apart : not b ≡ true → false ≡ entryPasses s t x p
       unfolding entryPasses passesWith
       tested-apart n = rw (← g, le-leb 8 (e .class) v, ← a, lt-leb (s .lines) home l, ← c, not-true b n)

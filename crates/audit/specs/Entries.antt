@@ -1,10 +1,9 @@
 -- The tests of two entries, of one, and of all, as the code makes them. What two entries ask of each other goes both ways, so it is asked
 -- once, of the higher port's entry.
-use Prim.Native.Nat.{ℕ, _+_, _*_, _/_, _%_, _<_}
-use mathlib.Core.Path.{_≡_}
-use mathlib.Core.Bool.{Bool, true, false, cond, _&&_, _||_, not}
+use Prim.Native.Nat.{ℕ, _+_, _*_, _/_, _%_}
+use mathlib.Core.Bool.{Bool, false, cond, _&&_, _||_, not}
 use mathlib.Core.List.{List}
-use lib.ListN.{getD, length}
+use lib.ListN.{getD}
 use lib.Dec.{eqb, leb}
 use Rattle.protocol.specs.declared.state.Mode.the-variants.{Through, Back}
 use Rattle.protocol.specs.declared.state.State.{State}
@@ -12,27 +11,10 @@ use Rattle.protocol.specs.declared.state.State.the-variants.{I, S, E, O, M}
 use Rattle.protocol.specs.declared.state.Byte.{Byte}
 use Rattle.protocol.specs.declared.state.Byte.the-variants.{Of, No}
 use Rattle.protocol.specs.State.{stateOf}
-use Rattle.ports.specs.Line.{Tables, tables}
 use Rattle.model.specs.declared.shape.Shape.{Shape}
-use Rattle.model.specs.Shape.{inRange, entries}
 use Rattle.model.specs.Below.{allBelow, anyBelow}
 use Rattle.model.specs.Tables.{Model, memoryAt}
 use Rattle.audit.specs.declared.Held.{Held}
-
--- The tables have the shape's size, and x is an index.
-pub record Sized (s : Shape) (t : Tables) (x : ℕ) : Type 0 where
-  pub tags : length (t .tags) ≡ entries s
-  pub states : length (t .states) ≡ entries s
-  pub words : length (t .words) ≡ entries s
-  pub index : x < s .sets
-
--- What is lent is not refused.
-pub record Ready (s : Shape) (t : Model) : Type 0 where
-  pub range : inRange s ≡ true
-  pub memory : length (t .memory) ≡ s .lines
-  pub tags : length (t .tags) ≡ entries s
-  pub states : length (t .states) ≡ entries s
-  pub words : length (t .words) ≡ entries s
 
 -- The class of a state, as a number: 0 for I; else 8, and 1 more for write back, 2 more for E or M, 4 more for O or M. A byte that is no
 -- state has class 1.
@@ -57,11 +39,11 @@ abbrev pub isOwner : ℕ → Bool
 isOwner n = eqb (n / 4 % 2) 1
 
 -- Entry k, and the entry of port q at index x.
-unfoldable pub heldAt : Tables → ℕ → Held
+unfoldable pub heldAt : Model → ℕ → Held
 heldAt t k = record { tag = getD (t .tags) k 0; class = classOf (stateOf (getD (t .states) k 0)); word = getD (t .words) k 0 }
 
-abbrev pub heldBy : ℕ → Tables → ℕ → ℕ → Held
-heldBy sets t x q = heldAt t (q * sets + x)
+abbrev pub heldBy : Shape → Model → ℕ → ℕ → Held
+heldBy s t x q = heldAt t (q * s .sets + x)
 
 -- The classes n and m of two holders of one line are compatible: of one mode, neither E or M, and not both O or M.
 unfoldable pub compatible : ℕ → ℕ → Bool
@@ -84,11 +66,8 @@ unfoldable pub ownedAt : Shape → List ℕ → List ℕ → ℕ → ℕ → Boo
 ownedAt s g h x tag = anyBelow (λ q. ownsAt g h tag (q * s .sets + x)) (s .ports)
 
 -- Entry e goes with the entry at index x of every port below p.
-unfoldable pub belowPass : ℕ → Tables → ℕ → ℕ → Held → Bool
-belowPass sets t x p e = allBelow (λ q. pairPasses e (heldBy sets t x q)) p
-
-abbrev pub tablesOf : Model → Tables
-tablesOf t = tables (t .tags) (t .states) (t .words)
+unfoldable pub belowPass : Shape → Model → ℕ → ℕ → Held → Bool
+belowPass s t x p e = allBelow (λ q. pairPasses e (heldBy s t x q)) p
 
 -- Port p's entry e at index x passes: it is I; or its home line is there, it goes with the entries of the ports below p, and memory has
 -- its word, or it or some port's entry owns the line.
@@ -97,11 +76,11 @@ passesWith s t x p e =
     let home = e .tag * s .sets + x in
     cond (leb 8 (e .class))
     (cond (leb (s .lines) home) false
-    (belowPass (s .sets) (tablesOf t) x p e && (eqb (e .word) (memoryAt t home) || isOwner (e .class) || ownedAt s (t .tags) (t .states) x (e .tag))))
+    (belowPass s t x p e && (eqb (e .word) (memoryAt t home) || isOwner (e .class) || ownedAt s (t .tags) (t .states) x (e .tag))))
     (eqb (e .class) 0)
 
 unfoldable pub entryPasses : Shape → Model → ℕ → ℕ → Bool
-entryPasses s t x p = passesWith s t x p (heldBy (s .sets) (tablesOf t) x p)
+entryPasses s t x p = passesWith s t x p (heldBy s t x p)
 
 -- Every port's entry at index x passes, and every entry of the tables.
 unfoldable pub indexPasses : Shape → Model → ℕ → Bool

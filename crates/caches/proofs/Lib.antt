@@ -1,4 +1,4 @@
--- Laws of one access or flush on the tables, that several proofs cite.
-pub mod Puts
-pub mod Decided
-pub mod Links
+-- Laws of one access or flush, that several proofs cite.
+pub mod Applied
+pub mod Accesses
+pub mod Flushes

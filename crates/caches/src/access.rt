@@ -1,9 +1,15 @@
-// One access or flush by a port, on the tables of a line.
+// A read, a write or a swap by a port.
+use crate::answer;
+use crate::memory;
+use model::answer::Answer;
+use model::shape::Shape;
 use ports::bus;
+use ports::entry;
+use ports::entry::Entry;
 use ports::line;
-use ports::line::Entry;
 use ports::line::Line;
 use ports::survey;
+use ports::survey::Masks;
 use protocol::rules;
 use protocol::state;
 use protocol::state::Mode;
@@ -11,127 +17,123 @@ use words::access;
 use words::access::Access;
 use words::choose;
 ghost use mathlib.Core.Path.{_≡_};
-ghost use mathlib.Core.Bool.{true};
+ghost use mathlib.Core.Bool.{true, cond};
 ghost use Prim.Native.Nat.{_<_};
-ghost use Rattle.protocol.specs.State.{stateOf, isState};
-ghost use Rattle.ports.specs.Line.{tables, Sized};
-ghost use Rattle.caches.specs.Access.{decideOf, accessIn, accessTables, flushIn, flushTables};
+ghost use Rattle.model.specs.Below.{lowest, atOr};
+ghost use Rattle.model.specs.Tables.{wordAt, memoryAt, owns};
+ghost use Rattle.model.specs.Step.{result, accessed, ifSound};
+ghost use Rattle.ports.specs.Bytes.{bytes, modelIn, tablesIn, Filled, Fitting};
+ghost use Rattle.ports.specs.Line.{Placed};
+ghost use Rattle.ports.specs.Masks.{portsFrom, masksOf};
 
-// What an access hands out: the answer's value and swapped mark; whether memory's word was fetched; whether the old entry's word is to be
-// stored at its home line, with the old tag and word; whether the line's word is to be stored, and that word; the port's new state byte
-// and the number of the bus command.
-pub struct Outcome {
-    pub value: u64,
-    pub swapped: bool,
-    pub fetched: bool,
-    pub evicts: bool,
-    pub tag: u32,
-    pub old: u64,
-    pub stores: bool,
-    pub word: u64,
-    pub own: u8,
-    pub bus: u8,
-}
-
-// An access was done, or some port's entry is unsound and nothing was done.
-pub enum Accessed {
-    Unsound,
-    Done(Outcome),
-}
-
-// A flush was done: whether the word is to be stored, and the word. Or some port's entry is unsound and nothing was done.
-pub enum Flushed {
-    Unsound,
-    Done(bool, u64),
-}
-
-// The decision of an access: whether it is a hit, the port's entry, whether another port holds the line, whether some port owns it, and the
-// word that the port finds.
-pub fn decide(hit: bool, e: Entry, shared: bool, dirty: bool, w: u64, a: Access, m: Mode) -> Outcome
-    requires { ⌜ isState (stateOf (e .byte)) ≡ true ⌝ }
-    ensures { λ r. ⌜ (r ≡ decideOf hit e shared dirty w a m) × (r .bus < 7) ⌝ }
+// The word that a port finds: its own on a hit, else the lowest-numbered owner's, else memory's.
+fn find_word(
+    tags: &[u8],
+    states: &[u8],
+    words: &[u8],
+    line: Line,
+    hit: bool,
+    own: u64,
+    owners: u64,
+    memory: u64,
+) -> u64
+    requires { ⌜ Filled (line .shape) (now tags) (now states) (now words) ⌝ }
+    requires { ⌜ Placed line ⌝ }
+    requires { ⌜ owners ≡ portsFrom (owns (line .shape) (tablesIn (line .shape) (now tags) (now states) (now words)) (line .number)) 0 (line .shape .ports) ⌝ }
+    ensures { λ r. ⌜ r ≡ cond hit own (atOr (wordAt (line .shape) (tablesIn (line .shape) (now (tags .entry)) (now (states .entry)) (now (words .entry))) (line .number)) memory (lowest (owns (line .shape) (tablesIn (line .shape) (now (tags .entry)) (now (states .entry)) (now (words .entry))) (line .number)) (line .shape .ports))) ⌝ }
 {
-    let b = e.byte;
-    let k = access::effect_at(a, w);
-    let outcome = k.outcome;
-    let r = rules::own_rule(outcome, m, shared, dirty, choose::choose_byte(hit, b, 0));
-    Outcome {
-        value: k.value,
-        swapped: k.swapped,
-        fetched: !hit & !dirty,
-        evicts: !hit & state::is_owner(state::byte_state(b)),
-        tag: e.tag,
-        old: e.word,
-        stores: r.stores,
-        word: k.word,
-        own: r.own,
-        bus: r.bus,
+    if hit {
+        return own;
     }
+    if owners == 0 {
+        return memory;
+    }
+    let p = u64::trailing_zeros(owners) as usize;
+    let sets = line.shape.sets;
+    entry::word_at(words, p * sets + line.place.index)
 }
 
-// A read, a write or a swap by port i, where memory has the word given.
-pub fn access_line(
-    tags: &mut [u32],
+// The access by port i where every entry is sound, from what the ports say of the line and from memory's word for it.
+fn access_sound(
+    memory: &mut [u8],
+    tags: &mut [u8],
     states: &mut [u8],
-    data: &mut [u64],
+    words: &mut [u8],
     line: Line,
     i: usize,
-    memory: u64,
-    a: Access,
+    said: Masks,
+    fetched: u64,
+    acc: Access,
     m: Mode,
-) -> Accessed
-    requires { ⌜ Sized line (now tags) (now states) ⌝ }
-    requires { ⌜ Sized line (now tags) (now «data») ⌝ }
-    requires { ⌜ i < line .ports ⌝ }
-    ensures { λ r. ⌜ r ≡ accessIn line (tables (now (tags .entry)) (now (states .entry)) (now («data» .entry))) i memory a m ⌝ }
-    ensures { λ r. ⌜ tables (now (tags .exit)) (now (states .exit)) (now («data» .exit)) ≡ accessTables line (tables (now (tags .entry)) (now (states .entry)) (now («data» .entry))) i memory a m ⌝ }
+) -> Answer
+    requires { ⌜ Fitting (line .shape) (bytes (now memory) (now tags) (now states) (now words)) ⌝ }
+    requires { ⌜ Placed line ⌝ }
+    requires { ⌜ i < line .shape .ports ⌝ }
+    requires { ⌜ (said ≡ masksOf (line .shape) (tablesIn (line .shape) (now tags) (now states) (now words)) (line .number)) × (said .sound ≡ true) ⌝ }
+    requires { ⌜ fetched ≡ memoryAt (modelIn (line .shape) (bytes (now memory) (now tags) (now states) (now words))) (line .number) ⌝ }
+    ensures { λ r. ⌜ result r (modelIn (line .shape) (bytes (now (memory .exit)) (now (tags .exit)) (now (states .exit)) (now (words .exit)))) ≡ accessed (line .shape) (modelIn (line .shape) (bytes (now (memory .entry)) (now (tags .entry)) (now (states .entry)) (now (words .entry)))) i (line .number) acc m ⌝ }
 {
-    let s = survey::survey_ports(tags, states, line, i);
-    if !s.sound {
-        return Accessed::Unsound;
-    }
-    let sets = line.sets;
-    let k = i * sets + line.index;
-    let e = line::entry_at(tags, states, data, k);
-    let first = s.first;
-    let owned = choose::choose_word(s.dirty, data[first], memory);
-    let hit = (e.tag == line.tag) & state::is_valid(state::byte_state(e.byte));
-    let w = choose::choose_word(hit, e.word, owned);
-    let o = decide(hit, e, s.shared, s.dirty, w, a, m);
-    bus::ask(tags, states, data, line, i, s.shared, o.bus, o.word);
-    line::put_entry(
+    let shape = line.shape;
+    let sets = shape.sets;
+    let index = line.place.index;
+    let at = i * sets + index;
+    let e = entry::entry_at(shape, tags, states, words, at);
+    let own = (said.holders >> i) % 2;
+    let hit = own == 1;
+    let others = said.holders - (own << i);
+    let dirty = said.owners != 0;
+    let w = find_word(tags, states, words, line, hit, e.word, said.owners, fetched);
+    let k = access::effect_at(acc, w);
+    let outcome = k.outcome;
+    let byte = choose::choose_byte(hit, e.byte, 0);
+    let r = rules::own_rule(outcome, m, others != 0, dirty, byte);
+    bus::ask(tags, states, words, line, i, others, r.bus, k.word);
+    entry::put_entry(
+        shape,
         tags,
         states,
-        data,
-        k,
+        words,
+        at,
         Entry {
-            tag: line.tag,
-            byte: o.own,
-            word: o.word,
+            tag: line.place.tag,
+            byte: r.own,
+            word: k.word,
         },
     );
-    Accessed::Done(o)
+    let evicts = !hit & state::is_owner(state::byte_state(e.byte));
+    let home = entry::home_of(e.tag, sets, index);
+    memory::store_if(memory, shape.lines, evicts, home, e.word);
+    memory::store_if(memory, shape.lines, r.stores, line.number, k.word);
+    Answer {
+        refusal: 0,
+        value: k.value,
+        swapped: answer::number(k.swapped),
+        reads: answer::number(!hit & !dirty),
+        writes: answer::number(evicts) + answer::number(r.stores),
+    }
 }
 
-// A flush by port i.
-pub fn flush_line(tags: &[u32], states: &mut [u8], data: &[u64], line: Line, i: usize) -> Flushed
-    requires { ⌜ Sized line (now tags) (now states) ⌝ }
-    requires { ⌜ Sized line (now tags) (now «data») ⌝ }
-    requires { ⌜ i < line .ports ⌝ }
-    ensures { λ r. ⌜ r ≡ flushIn line (tables (now (tags .entry)) (now (states .entry)) (now («data» .entry))) i ⌝ }
-    ensures { λ r. ⌜ tables (now (tags .entry)) (now (states .exit)) (now («data» .entry)) ≡ flushTables line (tables (now (tags .entry)) (now (states .entry)) (now («data» .entry))) i ⌝ }
+// A read, a write or a swap by port i of line a; refusal 8 where some port's entry at the line's index is unsound.
+pub fn access_line(
+    shape: Shape,
+    memory: &mut [u8],
+    tags: &mut [u8],
+    states: &mut [u8],
+    words: &mut [u8],
+    acc: Access,
+    m: Mode,
+    i: usize,
+    a: usize,
+) -> Answer
+    requires { ⌜ Fitting shape (bytes (now memory) (now tags) (now states) (now words)) ⌝ }
+    requires { ⌜ (i < shape .ports) × (a < shape .lines) ⌝ }
+    ensures { λ r. ⌜ result r (modelIn shape (bytes (now (memory .exit)) (now (tags .exit)) (now (states .exit)) (now (words .exit)))) ≡ ifSound shape (modelIn shape (bytes (now (memory .entry)) (now (tags .entry)) (now (states .entry)) (now (words .entry)))) a (accessed shape (modelIn shape (bytes (now (memory .entry)) (now (tags .entry)) (now (states .entry)) (now (words .entry)))) i a acc m) ⌝ }
 {
-    let s = survey::survey_ports(tags, states, line, i);
-    if !s.sound {
-        return Flushed::Unsound;
+    let line = line::line_of(shape, a);
+    let fetched = entry::word_at(memory, a);
+    let said = survey::survey_ports(tags, states, words, line);
+    if !said.sound {
+        return answer::refuse(8);
     }
-    let sets = line.sets;
-    let k = i * sets + line.index;
-    let e = line::entry_at(tags, states, data, k);
-    let byte = state::byte_state(e.byte);
-    if (e.tag == line.tag) & state::is_valid(byte) {
-        states[k] = 0;
-        return Flushed::Done(state::is_owner(byte), e.word);
-    }
-    Flushed::Done(false, e.word)
+    access_sound(memory, tags, states, words, line, i, said, fetched, acc, m)
 }

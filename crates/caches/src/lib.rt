@@ -1,3 +1,5 @@
-// The three tables of the ports' caches: one access or flush of a port. Memory's word comes in as a value, and the words to store go out
-// as values.
+// One access or flush by a port, on main memory and the three tables in bytes.
 pub mod access;
+pub mod answer;
+pub mod flush;
+mod memory;

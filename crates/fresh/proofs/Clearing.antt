@@ -1,18 +1,11 @@
--- Clearing a table, at every width, and the fresh model. Assumes nothing.
+-- Clearing a table. Assumes nothing.
 use Prim.Native.Nat.{ℕ, _+_, _<_, _≤_}
-use mathlib.Core.Path.{_≡_, refl, sym, ap, _∙_}
+use mathlib.Core.Path.{_≡_, refl, ap, _∙_}
 use mathlib.Core.List.{List, _++_, append-nil}
 use lib.ListN.{length, set, drop, replicate, length-set}
 use lib.Seq.{drop-length}
 use native.Mathlib.Omega.{arith}
 use borrow.Author.Fill.{fill-none, fill-more}
-use borrow.Author.Tests.{eq-eqb, ne-eqb}
-use mathlib.Core.Logic.{_≢_}
-use Rattle.model.specs.declared.shape.Shape.{Shape}
-use Rattle.model.specs.Shape.{refusalOf}
-use Rattle.model.specs.Tables.{Model, model, lentRefusal}
-use Rattle.model.specs.Fresh.{zeroed, fresh}
-use Rattle.model.proofs.Lent.{lent-facts}
 
 -- The loop's invariant: k zeros, and then what was there.
 pub record Clearing (d t : List ℕ) (k : ℕ) : Type 0 where
@@ -32,14 +25,3 @@ pub clearing-done : {d t : List ℕ} {k : ℕ} → Clearing d t k → length t �
 clearing-done {d} {t} {k} c h =
     let e : k ≡ length d = omega (arith, c .same, c .below) in
     c .zeros ∙ rw (e, drop-length, append-nil)
-
--- The answer, and the tables that are left: as they were on a refusal, else cleared.
-module _ (s : Shape) (t : Model) {n : ℕ} (e : n ≡ refusalOf s (length (t .memory)) (length (t .tags)) (length (t .states)) (length (t .words))) where
-  pub fresh-refused : n ≢ 0 → (n ≡ lentRefusal s t) × (t ≡ fresh s t)
-  unfolding lentRefusal fresh
-  fresh-refused h = (e, rw (← e, ne-eqb n 0 h))
-
-  pub fresh-made : n ≡ 0 → {a b c : List ℕ} → a ≡ replicate (length (t .tags)) 0 → b ≡ replicate (length (t .states)) 0 → c ≡ replicate (length (t .words)) 0
-      → (n ≡ lentRefusal s t) × (model (t .memory) a b c ≡ fresh s t)
-  unfolding lentRefusal fresh zeroed
-  fresh-made z p q u = let f = lent-facts s t (sym e ∙ z) .sizes in (e, rw (← e, eq-eqb n 0 z, p, q, u, f .tags, f .states, f .words))

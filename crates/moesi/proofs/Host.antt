@@ -20,15 +20,11 @@ use Rattle.model.specs.Order.{Order}
 use Rattle.model.specs.Tables.{Model, lentRefusal, memoryAt}
 use Rattle.model.specs.Step.{result, refused, store, step}
 use Rattle.model.specs.Fresh.{fresh, zeroed}
-use Rattle.model.specs.Audit.{audit, tablesPass}
-use Rattle.packed.specs.Fitting as audited
+use Rattle.model.specs.Audit.{audit}
 use Rattle.words.specs.Bools.{bit}
 use Rattle.model.proofs.Lent.{facts-lent, some-sets}
-use Rattle.ports.specs.declared.line.Line.{Line}
-use Rattle.ports.specs.Line.{lineOf}
-use Rattle.packed.specs.Packed.{Packed, wordIn}
-use Rattle.packed_step.specs.Bytes.{Bytes, bytes, modelIn, Fitting}
-use Rattle.packed_step.proofs.Bytes.{lent, refitted}
+use Rattle.ports.specs.Bytes.{Bytes, bytes, modelIn, Fitting}
+use Rattle.ports.proofs.Bytes.{lent, refitted}
 use Rattle.moesi.specs.Host.{inBytes, bytesFit, refusalBy, hostRefusal, answerBytes, hosted, hostStep, hostFresh, hostAudit}
 
 -- Refusal 0: the slices fit the shape.
@@ -164,11 +160,11 @@ module _ (s : Shape) (b : Bytes) (out : List ℕ) {n : ℕ} (en : n ≡ hostRefu
   pub audit-fits : n ≡ 0 → Fitting s b
   audit-fits z = fitting s b (eqb (length out) 1) (sym en ∙ z)
 
-  pub audit-accepted : n ≡ 0 → {p : Bool} {v : ℕ} → p ≡ tablesPass s (audited.modelIn s (b .memory) (b .tags) (b .states) (b .words)) → v ≡ bit p → hosted 0 b (set out 0 v) ≡ hostAudit s b out
-  unfolding hostAudit audit modelIn
+  pub audit-accepted : n ≡ 0 → {p : Bool} {v : ℕ} → p ≡ audit s (modelIn s b) → v ≡ bit p → hosted 0 b (set out 0 v) ≡ hostAudit s b out
+  unfolding hostAudit
   audit-accepted z {p} {v} ep ev =
       let o = out-fits s _ _ _ _ (eqb (length out) 1) en z in
-      rw (← en, eq-eqb n 0 z, o, eq-eqb (lentRefusal s (modelIn s b)) 0 (lent (fitting s b (eqb (length out) 1) (sym en ∙ z))), only out v (eqb-true _ _ o), ev, ep, z)
+      rw (← en, eq-eqb n 0 z, o, only out v (eqb-true _ _ o), ev, ep, z)
 
   pub audit-refused : n ≢ 0 → eqb (length out) 1 ≡ true → hosted n b (set out 0 0) ≡ hostAudit s b out
   unfolding hostAudit

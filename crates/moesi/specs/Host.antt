@@ -6,7 +6,7 @@ use lib.ListN.{length}
 use lib.Dec.{eqb}
 use Rattle.words.specs.Bools.{bit}
 use Rattle.endian.specs.Little.{encoded}
-use Rattle.packed_step.specs.Bytes.{Bytes, bytes, modelIn}
+use Rattle.ports.specs.Bytes.{Bytes, bytes, modelIn}
 use Rattle.model.specs.declared.shape.Shape.{Shape}
 use Rattle.model.specs.declared.answer.Answer.{Answer}
 use Rattle.model.specs.Shape.{inRange, entries}

@@ -8,7 +8,7 @@ ghost use mathlib.Core.List.{[]};
 ghost use Rattle.words.specs.Bools.{bit};
 ghost use Rattle.model.specs.Shape.{inRange};
 ghost use Rattle.decode.specs.Order.{order};
-ghost use Rattle.packed_step.specs.Bytes.{bytes};
+ghost use Rattle.ports.specs.Bytes.{bytes};
 ghost use Rattle.moesi.specs.Host.{bytesFit, refusalBy, answerBytes, hosted, hostStep, hostFresh, hostAudit};
 
 // The lengths of the slices in bytes are those of the shape.
@@ -84,7 +84,7 @@ pub extern "C" fn moesi_step(
         }
         return n;
     }
-    let a = packed_step::step_bytes(shape, memory, tags, states, data, word, operand);
+    let a = step::step_order(shape, memory, tags, states, data, word, operand);
     put_answer(answer, a.refusal, a.value, a.swapped, a.reads, a.writes);
     a.refusal
 }
@@ -155,6 +155,6 @@ pub extern "C" fn moesi_audit(
         }
         return n;
     }
-    verdict[0] = yes_or_no(packed_audit::tables_pass(shape, memory, tags, states, data));
+    verdict[0] = yes_or_no(audit::audit_tables(shape, memory, tags, states, data));
     0
 }

@@ -1,126 +1,289 @@
--- The ports' answers on the bus: one entry, one port's own part of the tables, and one port more at a time. Assumes nothing.
-use Prim.Native.Nat.{ℕ, suc, _+_, _-_, _%_, _<_, _≤_}
+-- The holders' answers on the bus, in bytes: one entry from its port's own part of the tables, and the ports of a mask one after the other.
+-- Assumes nothing.
+use Prim.Native.Nat.{ℕ, zero, suc, _+_, _*_, _-_, _/_, _%_, _^_, _<_, _≤_}
 use mathlib.Core.Path.{_≡_, refl, sym, ap, _∙_}
-use mathlib.Core.Bool.{Bool, true, false, cond, _&&_, not}
-use mathlib.Core.List.{List}
-use lib.ListN.{getD, set, length, length-drop}
-use lib.Seq.{getD-drop, set-getD}
-use lib.Dec.{eqb}
+use mathlib.Core.Bool.{Bool, true, false, cond, _&&_, not, false≢true}
+use mathlib.Core.List.{List, [], _∷_, _++_, append-nil}
 use native.Mathlib.Omega.{arith}
+use native.Mathlib.Nat.{add-zero, add-suc}
 use native.Mathlib.Numerals.{add-one}
-use native.Mathlib.Decide.{ℕ-discrete}
-use borrow.Author.Tests.{eq-eqb, ne-eqb}
-use borrow.Rule.Slice.PartMut.{midOf, putMid, put-same, set-mid-at}
+use lib.Dec.{eqb}
+use lib.ListN.{getD, set, length, take, drop, take-append-drop, length-drop}
+use lib.Seq.{getD-drop, drop-drop, drop-length, drop-set-add, take-set-le, sets, set-getD}
+use lib.Count.{trailingZeros}
+use borrow.Author.Tests.{not-true, eqb-true}
+use borrow.Rule.Slice.PartMut.{midOf, postOf, putMid, put-same, post-is, set-mid-at}
 use borrow.Rule.Slice.PartAt.{part-to-end}
-use Rattle.protocol.specs.declared.state.Byte.{Byte}
-use Rattle.protocol.specs.State.{stateOf, orInvalid, valid}
-use Rattle.protocol.specs.Coded.{nibbleAt}
+use Rattle.words.proofs.Bools.{Is, and-l, and-r, by-bool, not-is}
+use Rattle.protocol.specs.declared.rules.Bus.{Bus}
+use Rattle.protocol.specs.declared.rules.Bus.the-variants.{Quiet}
+use Rattle.protocol.specs.State.{code, stateOf, orInvalid, isState, valid}
+use Rattle.protocol.specs.Rules.{snooped, updates}
+use Rattle.protocol.specs.Coded.{busAt, nibbleAt, snoopRow}
+use Rattle.protocol.proofs.States.{code-stateOf}
+use Rattle.protocol.proofs.Rows.{snooped-is}
+use Rattle.protocol.proofs.Kept.{quiet-same, quiet-keeps}
+use Rattle.endian.specs.Little.{number, numbers, bytesOf}
+use Rattle.endian.proofs.Little.{get-numbers, set-numbers}
+use Rattle.model.specs.declared.shape.Shape.{Shape}
+use Rattle.model.specs.Shape.{entries, tagOf, entryOf}
+use Rattle.model.specs.Tables.{Model, model, seen, stateAt, wordAt, holds}
 use Rattle.model.specs.Step.{putBelow}
-use Rattle.model.proofs.Entries.{putBelow-other}
+use Rattle.model.proofs.Entries.{putBelow-other, entry-lt, entry-inj, seen-tag, seen-here}
 use Rattle.ports.specs.declared.line.Line.{Line}
 use Rattle.ports.specs.declared.bus.Command.{Command}
-use Rattle.ports.specs.Line.{Tables, tables, Within, Sized, numberOf}
-use Rattle.ports.specs.Bus.{answerAt, byteAnswered, wordAnswered, answered, commandOf, asked}
-use Rattle.ports.proofs.Places.{in-one, in-two, number-inj}
-
--- One entry's answer, as the code makes it.
-pub answer-is : (c : Command) (tag w k : ℕ) (t : Tables) {y : Byte} {v : Bool} {n b x : ℕ} → y ≡ stateOf (getD (t .states) k 0) → v ≡ valid (orInvalid y)
-    → n ≡ nibbleAt (c .row) (getD (t .states) k 0 % 16)
-    → b ≡ cond (eqb (getD (t .tags) k 0) tag) n (getD (t .states) k 0)
-    → x ≡ cond (eqb (getD (t .tags) k 0) tag && v && c .hands) w (getD (t .words) k 0)
-    → tables (t .tags) (set (t .states) k b) (set (t .words) k x) ≡ answerAt c tag w k t
-unfolding answerAt
-answer-is c tag w k t ey ev en eb ex = rw (ex, eb, en, ev, ey)
-
--- The parts of the tables from a on, and the tables with the parts put back.
-abbrev pub partOf : ℕ → Tables → Tables
-partOf a t = tables (midOf a (length (t .tags) - a) (t .tags)) (midOf a (length (t .states) - a) (t .states)) (midOf a (length (t .words) - a) (t .words))
-
-abbrev pub putPart : ℕ → Tables → Tables → Tables
-putPart a t y =
-    tables (putMid a (length (t .tags) - a) (t .tags) (y .tags)) (putMid a (length (t .states) - a) (t .states) (y .states))
-    (putMid a (length (t .words) - a) (t .words) (y .words))
-
-pub tables-eq : {a a' b b' c c' : List ℕ} → a ≡ a' → b ≡ b' → c ≡ c' → tables a b c ≡ tables a' b' c'
-tables-eq p q r = rw (p, q, r)
+use Rattle.ports.specs.Bytes.{tablesIn, Filled}
+use Rattle.ports.specs.Entry.{Room, tagIn}
+use Rattle.ports.specs.Line.{Placed}
+use Rattle.ports.specs.Masks.{portsFrom}
+use Rattle.ports.specs.Bus.{commandOf, Holder, statesAnswered, wordsAnswered, AllStates, other, byteAnswered, wordAnswered, answered}
+use Rattle.ports.proofs.Bytes.{model-eq, refilled}
+use Rattle.ports.proofs.Places.{some, few, tag-is, number-is}
+use Rattle.ports.proofs.Puts.{put-id}
+use Rattle.ports.proofs.Masks.{First, mask-half, mask-drop, mask-some, mask-first}
 
 in-part : (a j : ℕ) (xs : List ℕ) → a + j < length xs → j < length (midOf a (length xs - a) xs)
 in-part a j xs h = rw (part-to-end, length-drop) (omega arith)
 
-pub part-get : (a j : ℕ) (xs : List ℕ) → getD (midOf a (length xs - a) xs) j 0 ≡ getD xs (a + j) 0
+part-get : (a j : ℕ) (xs : List ℕ) → getD (midOf a (length xs - a) xs) j 0 ≡ getD xs (a + j) 0
 part-get a j xs = rw (part-to-end, getD-drop)
 
-pub part-set : (a j : ℕ) (xs : List ℕ) {v v' : ℕ} → v ≡ v' → a + j < length xs
+part-set : (a j : ℕ) (xs : List ℕ) {v v' : ℕ} → v ≡ v' → a + j < length xs
     → putMid a (length xs - a) xs (set (midOf a (length xs - a) xs) j v) ≡ set xs (a + j) v'
 part-set a j xs {v} e h = set-mid-at a (length xs - a) j xs v (in-part a j xs h) ∙ ap (set xs (a + j)) e
 
--- A port's answer from its own part is its answer in the whole.
-pub part-answer : (c : Command) (tag w a j : ℕ) (t : Tables) {other : Bool} → other ≡ true → Within t (a + j) → {y : Tables} → y ≡ answerAt c tag w j (partOf a t)
-    → putPart a t y ≡ cond other (answerAt c tag w (a + j) t) t
-unfolding answerAt
-part-answer c tag w a j t o h e =
-    rw o (ap (putPart a t) e
-    ∙ tables-eq (put-same a (length (t .tags) - a) (t .tags)) (part-set a j (t .states) (rw (part-get a j (t .tags), part-get a j (t .states))) (h .in-states))
-    (part-set a j (t .words) (rw (part-get a j (t .tags), part-get a j (t .states), part-get a j (t .words))) (h .in-words)))
+-- Bytes stored in a part are stored in the whole.
+behind : (a j : ℕ) (xs vs : List ℕ) → take a xs ++ sets (drop a xs) j vs ≡ sets xs (a + j) vs
+behind a j xs [] = take-append-drop a xs
+behind a j xs (v ∷ vs) =
+    let xs' : List ℕ = set xs (a + j) v in
+    ap (λ (l : List ℕ). l ++ sets (set (drop a xs) j v) (suc j) vs) (sym (take-set-le a xs (a + j) v (omega arith)))
+    ∙ ap (λ (l : List ℕ). take a xs' ++ sets l (suc j) vs) (sym (drop-set-add a xs j v))
+    ∙ behind a (suc j) xs' vs ∙ ap (λ (n : ℕ). sets xs' n vs) (add-suc a j)
 
--- Every port but i, one more at a time.
-pub record Answering (l : Line) (c : Command) (w i : ℕ) (t₀ t : Tables) (p : ℕ) : Type 0 where
-  pub below : p ≤ l .ports
-  pub states : Sized l (t .tags) (t .states)
-  pub words : Sized l (t .tags) (t .words)
-  pub now : t ≡ answered l c w i t₀ p
+part-sets : (a j : ℕ) (xs vs : List ℕ) → a ≤ length xs → putMid a (length xs - a) xs (sets (midOf a (length xs - a) xs) j vs) ≡ sets xs (a + j) vs
+part-sets a j xs vs h =
+    ap (λ (l : List ℕ). take a xs ++ (sets l j vs ++ postOf a (length xs - a) xs)) (part-to-end xs a)
+    ∙ ap (λ (l : List ℕ). take a xs ++ (sets (drop a xs) j vs ++ l)) (post-is a (length xs) xs h ∙ drop-length xs)
+    ∙ ap (λ (l : List ℕ). take a xs ++ l) (append-nil (sets (drop a xs) j vs))
+    ∙ behind a j xs vs
 
-pub answering-none : (l : Line) (c : Command) (w i : ℕ) (t : Tables) → Sized l (t .tags) (t .states) → Sized l (t .tags) (t .words) → Answering l c w i t t 0
-unfolding answered putBelow
-answering-none l c w i t a b = record { below = omega arith; states = a; words = b; now = refl }
+-- A number in a part is a number of the whole.
+part-number : (w a j k : ℕ) (xs : List ℕ) → a + w * j ≡ w * k → number w (drop (w * j) (midOf a (length xs - a) xs)) ≡ number w (drop (w * k) xs)
+part-number w a j k xs e = ap (λ (l : List ℕ). number w (drop (w * j) l)) (part-to-end xs a) ∙ ap (number w) (drop-drop (w * j) a xs ∙ ap (λ (n : ℕ). drop n xs) e)
 
-module _ (l : Line) (c : Command) (w i : ℕ) (t : Tables) (inside : l .index < l .sets) (p : ℕ) where
+-- A holder's answer from its own part is its answer in the whole.
+module _ {g h d : List ℕ} (c : Command) (w tag from index : ℕ) (room : Room g h d (from + index)) (holder : Holder tag g h (from + index)) where
+  -- The part has the entry, and it holds the line there too.
+  pub part-holder : Holder tag (midOf (4 * from) (length g - 4 * from) g) (midOf from (length h - from) h) index
+  part-holder = record {
+    same = part-number 4 (4 * from) index (from + index) g (omega arith) ∙ holder .same;
+    held = rw (part-get from index h) (holder .held);
+  }
+
+  pub tags-part : {g' : List ℕ} → g' ≡ midOf (4 * from) (length g - 4 * from) g → putMid (4 * from) (length g - 4 * from) g g' ≡ g
+  tags-part e = rw e (put-same (4 * from) (length g - 4 * from) g)
+
+  pub states-part : {h' : List ℕ} → h' ≡ statesAnswered c index (midOf from (length h - from) h) → putMid from (length h - from) h h' ≡ statesAnswered c (from + index) h
+  unfolding statesAnswered
+  states-part e = rw e (part-set from index h (rw (part-get from index h)) (room .in-states))
+
+  pub words-part : {d' : List ℕ} → d' ≡ wordsAnswered c w index (midOf (8 * from) (length d - 8 * from) d) → putMid (8 * from) (length d - 8 * from) d d' ≡ wordsAnswered c w (from + index) d
+  unfolding wordsAnswered
+  words-part e =
+      let at-k : 8 * from + 8 * index ≡ 8 * (from + index) = omega arith in
+      rw e (by-bool (c .hands)
+      (λ y. rw y (part-sets (8 * from) (8 * index) d (bytesOf 8 w) (omega (arith, room .in-words)) ∙ ap (λ (n : ℕ). sets d n (bytesOf 8 w)) at-k))
+      (λ y. rw (not-true (c .hands) y) (put-same (8 * from) (length d - 8 * from) d)))
+
+-- The tables after the first p ports have answered.
+module _ (s : Shape) (pos : zero < s .sets) (t : Model) (i a : ℕ) (b : Bus) (w : ℕ) where
   -- The entry of port p is as it was before the first p ports answered.
-  pub still : (f : ℕ → ℕ) (xs : List ℕ) → getD (putBelow (numberOf l) f p xs) (numberOf l p) 0 ≡ getD xs (numberOf l p) 0
-  still f xs = putBelow-other (numberOf l) f p xs (numberOf l p) (λ q h e. apart q h (number-inj l inside p q e))
+  still : (p : ℕ) (f : ℕ → ℕ) (xs : List ℕ) → getD (putBelow (entryOf s a) f p xs) (entryOf s a p) 0 ≡ getD xs (entryOf s a p) 0
+  still p f xs = putBelow-other (entryOf s a) f p xs (entryOf s a p) (λ q h e. apart q h (entry-inj s pos a p q e))
     where
       apart : (q : ℕ) → q < p → p ≡ q → ⊥
       apart q h e = omega arith
 
-  pub port-answers : cond (not (eqb p i)) (answerAt c (l .tag) w (numberOf l p) (answered l c w i t p)) (answered l c w i t p) ≡ answered l c w i t (suc p)
-  unfolding answered putBelow answerAt byteAnswered wordAnswered
-  port-answers =
-      elim (ℕ-discrete p i) [
-        | no d ↦ rw (ne-eqb p i d, still (byteAnswered l c w i t) (t .states), still (wordAnswered l c w i t) (t .words))
-        | yes e ↦ rw (eq-eqb p i e)
-            (tables-eq refl
-            (sym (ap (set (putBelow (numberOf l) (byteAnswered l c w i t) p (t .states)) (numberOf l p)) (sym (still (byteAnswered l c w i t) (t .states))) ∙ set-getD _ (numberOf l p) 0))
-            (sym (ap (set (putBelow (numberOf l) (wordAnswered l c w i t) p (t .words)) (numberOf l p)) (sym (still (wordAnswered l c w i t) (t .words))) ∙ set-getD _ (numberOf l p) 0)))
-      ]
+  -- A port that is no other holder answers with what it has.
+  byte-kept : (p : ℕ) → Is (not (other s t i a p)) → byteAnswered s t i a b w p ≡ getD (t .states) (entryOf s a p) 0
+  unfolding byteAnswered
+  byte-kept p h = rw (not-true (other s t i a p) h)
 
-resized : {l : Line} {g h g' h' : List ℕ} → Sized l g h → length g' ≡ length g → length h' ≡ length h → Sized l g' h'
-resized s a b = record { one = a ∙ s .one; two = b ∙ s .two; index = s .index }
+  word-kept : (p : ℕ) → Is (not (other s t i a p)) → wordAnswered s t i a b w p ≡ getD (t .words) (entryOf s a p) 0
+  unfolding wordAnswered wordAt
+  word-kept p h = rw (not-true (other s t i a p) h)
 
-pub answering-more : {l : Line} {c : Command} {w i : ℕ} {t₀ t : Tables} {p : ℕ} (y : Tables) → Answering l c w i t₀ t p → p < l .ports
-    → length (y .tags) ≡ length (t .tags) → length (y .states) ≡ length (t .states) → length (y .words) ≡ length (t .words)
-    → y ≡ cond (not (eqb p i)) (answerAt c (l .tag) w (numberOf l p) t) t → Answering l c w i t₀ y (p + 1)
-answering-more {l} {c} {w} {i} {t₀} {t} {p} y v q a b d e = record {
-  below = omega arith;
-  states = resized (v .states) a b;
-  words = resized (v .words) a d;
-  now = rw (add-one, e, v .now) (port-answers l c w i t₀ (v .states .index) p);
-}
+  skip-one : (p : ℕ) → Is (not (other s t i a p)) → answered s t i a b w (suc p) ≡ answered s t i a b w p
+  unfolding answered putBelow
+  skip-one p h =
+      model-eq refl refl
+      (ap (set (putBelow (entryOf s a) (byteAnswered s t i a b w) p (t .states)) (entryOf s a p)) (byte-kept p h ∙ sym (still p (byteAnswered s t i a b w) (t .states))) ∙ set-getD _ (entryOf s a p) 0)
+      (ap (set (putBelow (entryOf s a) (wordAnswered s t i a b w) p (t .words)) (entryOf s a p)) (word-kept p h ∙ sym (still p (wordAnswered s t i a b w) (t .words))) ∙ set-getD _ (entryOf s a p) 0)
 
-pub answering-done : {l : Line} {c : Command} {w i : ℕ} {t₀ t : Tables} {p : ℕ} → Answering l c w i t₀ t p → l .ports ≤ p → t ≡ answered l c w i t₀ (l .ports)
-answering-done {l} {c} {w} {i} {t₀} {t} {p} v q = let e : p ≡ l .ports = omega (arith, v .below) in v .now ∙ ap (answered l c w i t₀) e
+  skip : (p z : ℕ) → ((r : ℕ) → r < z → Is (not (other s t i a (p + r)))) → answered s t i a b w (p + z) ≡ answered s t i a b w p
+  skip p zero u = ap (answered s t i a b w) (add-zero p)
+  skip p (suc z) u = ap (answered s t i a b w) (add-suc p z) ∙ skip-one (p + z) (u z (omega arith)) ∙ skip p z (λ r k. u r (omega arith))
 
-pub within : {l : Line} {a b c : List ℕ} → Sized l a b → Sized l a c → (p : ℕ) → p < l .ports → Within (tables a b c) (numberOf l p)
-within s t p q = record { in-tags = in-one s p q; in-states = in-two s p q; in-words = in-two t p q }
+-- A quiet bus changes nothing.
+module _ (s : Shape) (pos : zero < s .sets) (t : Model) (i a w : ℕ) (fine : AllStates s a (t .states)) where
+  quiet-byte : (p : ℕ) → p < s .ports → byteAnswered s t i a Quiet w p ≡ getD (t .states) (entryOf s a p) 0
+  unfolding byteAnswered
+  quiet-byte p q =
+      by-bool (other s t i a p)
+      (λ h. rw (h, quiet-same (seen s t a p), seen-here s t a p (seen-tag s t a p (and-r (not (eqb p i)) _ h))) (code-stateOf (getD (t .states) (entryOf s a p) 0) (fine p q)))
+      (λ h. rw (not-true (other s t i a p) h))
 
-pub within-kept : {a b c a' b' c' : List ℕ} {k : ℕ} → Within (tables a b c) k → length a' ≡ length a → length b' ≡ length b → length c' ≡ length c → Within (tables a' b' c') k
-within-kept h p q r = record { in-tags = rw p (h .in-tags); in-states = rw q (h .in-states); in-words = rw r (h .in-words) }
+  quiet-word : (p : ℕ) → p < s .ports → wordAnswered s t i a Quiet w p ≡ getD (t .words) (entryOf s a p) 0
+  unfolding wordAnswered wordAt
+  quiet-word p q = rw quiet-keeps (never (other s t i a p))
+    where
+      never : (b : Bool) → cond (b && false) w (getD (t .words) (entryOf s a p) 0) ≡ getD (t .words) (entryOf s a p) 0
+      never true = refl
+      never false = refl
 
--- A command that is sent, and one that is not.
-module _ (l : Line) (shared : Bool) (n w i : ℕ) (t : Tables) where
-  pub asked-all : (shared && not (eqb n 0)) ≡ true → {c : Command} → c ≡ commandOf n → {y : Tables} → y ≡ answered l c w i t (l .ports) → y ≡ asked l shared n w i t
-  unfolding asked
-  asked-all h e f = rw (h, f, e)
+  pub quiet-answered : {b : Bus} → b ≡ Quiet → t ≡ answered s t i a b w (s .ports)
+  unfolding answered
+  quiet-answered e =
+      rw e (model-eq refl refl (sym (put-id (entryOf s a) (entry-inj s pos a) (byteAnswered s t i a Quiet w) (s .ports) (t .states) quiet-byte))
+      (sym (put-id (entryOf s a) (entry-inj s pos a) (wordAnswered s t i a Quiet w) (s .ports) (t .words) quiet-word)))
 
-  pub asked-none : (shared && not (eqb n 0)) ≡ false → t ≡ asked l shared n w i t
-  unfolding asked
-  asked-none h = rw h
+-- The ports of the mask, one after the other: rest has those from port p on.
+pub record Telling (l : Line) (bus w i : ℕ) (g₀ h₀ d₀ g h d : List ℕ) (rest p : ℕ) : Type 0 where
+  pub filled : Filled (l .shape) g h d
+  pub now : tablesIn (l .shape) g h d ≡ answered (l .shape) (tablesIn (l .shape) g₀ h₀ d₀) i (l .number) (busAt bus) w p
+  pub count : ℕ
+  pub all : p + count ≡ l .shape .ports
+  pub mask : rest ≡ portsFrom (other (l .shape) (tablesIn (l .shape) g₀ h₀ d₀) i (l .number)) p count
+
+module _ {l : Line} (v : Placed l) {g₀ h₀ d₀ : List ℕ} (bus w i : ℕ) (f₀ : Filled (l .shape) g₀ h₀ d₀) (fine : AllStates (l .shape) (l .number) h₀) where
+  abbrev s : Shape
+  s = l .shape
+
+  abbrev a : ℕ
+  a = l .number
+
+  abbrev t₀ : Model
+  t₀ = tablesIn (l .shape) g₀ h₀ d₀
+
+  abbrev test : ℕ → Bool
+  test p = other s t₀ i a p
+
+  abbrev after : ℕ → Model
+  after p = answered s t₀ i a (busAt bus) w p
+
+  pub telling-none : {others : ℕ} → others ≡ portsFrom test 0 (s .ports) → Telling l bus w i g₀ h₀ d₀ g₀ h₀ d₀ others 0
+  unfolding answered putBelow
+  telling-none e = record { filled = f₀; now = refl; count = s .ports; all = omega arith; mask = e }
+
+  module _ {g h d : List ℕ} {rest p : ℕ} (u : Telling l bus w i g₀ h₀ d₀ g h d rest p) where
+    pub telling-done : rest ≡ 0 → tablesIn s g h d ≡ after (s .ports)
+    telling-done z =
+        u .now ∙ sym (skip s (some v) t₀ i a (busAt bus) w p (u .count) (λ r k. not-is (test (p + r)) (λ y. absurd (omega (arith, z, u .mask, mask-some test p (u .count) r k y)))))
+        ∙ ap after (u .all)
+
+    module _ (left : rest ≡ 0 → ⊥) where
+      abbrev z : ℕ
+      z = trailingZeros 64 rest
+
+      first : First test p (u .count) z
+      first = rw (u .mask) (mask-first test p (u .count) 64 (omega (arith, u .all, few v)) (omega (arith, left, u .mask)))
+
+      -- The next port of the mask.
+      pub next-below : p + z < s .ports
+      next-below = omega (arith, first .below, u .all)
+
+      abbrev k : ℕ
+      k = (p + z) * l .shape .sets + l .place .index
+
+      at-k : k ≡ entryOf s a (p + z)
+      at-k = number-is v (p + z)
+
+      in-k : entryOf s a (p + z) < entries s
+      in-k = entry-lt s (some v) a (p + z) next-below
+
+      reached : tablesIn s g h d ≡ after (p + z)
+      reached = u .now ∙ sym (skip s (some v) t₀ i a (busAt bus) w p z (first .lower))
+
+      held : Is (holds s t₀ a (p + z))
+      held = and-r (not (eqb (p + z) i)) _ (first .passes)
+
+      byte-there : getD h (entryOf s a (p + z)) 0 ≡ getD h₀ (entryOf s a (p + z)) 0
+      unfolding answered tablesIn
+      byte-there =
+          ap (λ (t : Model). getD (t .states) (entryOf s a (p + z)) 0) reached
+          ∙ still s (some v) t₀ i a (busAt bus) w (p + z) (byteAnswered s t₀ i a (busAt bus) w) h₀
+
+      word-there : getD (numbers 8 (entries s) d) (entryOf s a (p + z)) 0 ≡ getD (numbers 8 (entries s) d₀) (entryOf s a (p + z)) 0
+      unfolding answered tablesIn
+      word-there =
+          ap (λ (t : Model). getD (t .words) (entryOf s a (p + z)) 0) reached
+          ∙ still s (some v) t₀ i a (busAt bus) w (p + z) (wordAnswered s t₀ i a (busAt bus) w) (numbers 8 (entries s) d₀)
+
+      tag-there : tagIn g (entryOf s a (p + z)) ≡ tagOf s a
+      unfolding answered tablesIn
+      tag-there =
+          sym (get-numbers 4 (entries s) (entryOf s a (p + z)) g in-k)
+          ∙ ap (λ (t : Model). getD (t .tags) (entryOf s a (p + z)) 0) reached ∙ seen-tag s t₀ a (p + z) held
+
+      state-there : seen s t₀ a (p + z) ≡ orInvalid (stateOf (getD h₀ (entryOf s a (p + z)) 0))
+      unfolding tablesIn
+      state-there = seen-here s t₀ a (p + z) (seen-tag s t₀ a (p + z) held)
+
+      pub next-holder : Holder (l .place .tag) g h k
+      next-holder = rw (at-k, tag-is v) (record { same = tag-there; held = rw (byte-there, ← state-there) held })
+
+      pub next-room : Room g h d k
+      next-room = rw at-k (record { in-tags = omega (arith, in-k, u .filled .tags-fit); in-states = omega (arith, in-k, u .filled .states-fit); in-words = omega (arith, in-k, u .filled .words-fit) })
+
+      -- It answers.
+      byte-is : nibbleAt (snoopRow bus) (getD h (entryOf s a (p + z)) 0 % 16) ≡ byteAnswered s t₀ i a (busAt bus) w (p + z)
+      unfolding byteAnswered
+      byte-is = rw (byte-there, first .passes, state-there) (snooped-is bus (getD h₀ (entryOf s a (p + z)) 0) (fine (p + z) next-below) refl refl)
+
+      word-is : cond (updates (busAt bus)) w (getD (numbers 8 (entries s) d) (entryOf s a (p + z)) 0) ≡ wordAnswered s t₀ i a (busAt bus) w (p + z)
+      unfolding wordAnswered wordAt tablesIn
+      word-is = rw (word-there, first .passes)
+
+      words-put : w < 2 ^ 64 → (b : Bool) → numbers 8 (entries s) (cond b (sets d (8 * entryOf s a (p + z)) (bytesOf 8 w)) d)
+          ≡ set (numbers 8 (entries s) d) (entryOf s a (p + z)) (cond b w (getD (numbers 8 (entries s) d) (entryOf s a (p + z)) 0))
+      words-put fits true = set-numbers 8 (entries s) (entryOf s a (p + z)) w d in-k (omega arith) (omega (arith, u .filled .words-fit))
+      words-put fits false = sym (set-getD (numbers 8 (entries s) d) (entryOf s a (p + z)) 0)
+
+      now-answered : w < 2 ^ 64 → {g' h' d' : List ℕ} {c : Command} → c ≡ commandOf bus → g' ≡ g → h' ≡ statesAnswered c k h → d' ≡ wordsAnswered c w k d
+          → tablesIn s g' h' d' ≡ after (suc (p + z))
+      unfolding tablesIn answered putBelow statesAnswered wordsAnswered commandOf
+      now-answered fits ec eg eh ed =
+          rw (eg, eh, ed, ec, at-k)
+          (model-eq refl (ap (λ (t : Model). t .tags) reached)
+          (ap (set h (entryOf s a (p + z))) byte-is ∙ ap (λ (t : Model). set (t .states) (entryOf s a (p + z)) (byteAnswered s t₀ i a (busAt bus) w (p + z))) reached)
+          (words-put fits (updates (busAt bus)) ∙ ap (set (numbers 8 (entries s) d) (entryOf s a (p + z))) word-is
+          ∙ ap (λ (t : Model). set (t .words) (entryOf s a (p + z)) (wordAnswered s t₀ i a (busAt bus) w (p + z))) reached))
+
+      pub telling-more : w < 2 ^ 64 → {g' h' d' : List ℕ} → length g' ≡ length g → length h' ≡ length h → length d' ≡ length d → {c : Command} → c ≡ commandOf bus
+          → (g' ≡ g) × ((h' ≡ statesAnswered c k h) × (d' ≡ wordsAnswered c w k d)) → Telling l bus w i g₀ h₀ d₀ g' h' d' (rest / 2 ^ z / 2) (p + z + 1)
+      telling-more fits {g'} {h'} {d'} eg eh ed ec e =
+          let n : ℕ = u .count - z - 1 in
+          let m : rest / 2 ^ z ≡ portsFrom test (p + z) (suc n) = ap (λ (x : ℕ). x / 2 ^ z) (u .mask) ∙ mask-drop test p z (suc n) (omega (arith, first .below)) refl in
+          record {
+            filled = refilled (u .filled) eg eh ed;
+            now = now-answered fits ec (e .0) (e .1 .0) (e .1 .1) ∙ ap after (sym (add-one (p + z)));
+            count = n;
+            all = omega (arith, u .all, first .below);
+            mask = ap (λ (x : ℕ). x / 2) m ∙ mask-half test (p + z) n ∙ ap (λ (x : ℕ). portsFrom test x n) (sym (add-one (p + z)));
+          }
+
+  -- Nobody is asked: there is no other holder, or the bus is quiet.
+  unpacked : AllStates s a (t₀ .states)
+  unfolding tablesIn
+  unpacked = fine
+
+  quiet : (b : Bool) → eqb bus 0 ≡ b → not b ≡ false → busAt bus ≡ Quiet
+  unfolding busAt
+  quiet true y _ = rw y
+  quiet false _ z = absurd (false≢true (sym z))
+
+  pub unasked : {others : ℕ} → others ≡ portsFrom test 0 (s .ports) → (not (eqb others 0) && not (eqb bus 0)) ≡ false → t₀ ≡ after (s .ports)
+  unasked {others} e h =
+      by-bool (eqb others 0) (λ y. telling-done (telling-none e) (eqb-true others 0 y))
+      (λ y. quiet-answered s (some v) t₀ i a w unpacked (quiet (eqb bus 0) refl (rw y at h)))

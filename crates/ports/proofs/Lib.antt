@@ -1,4 +1,7 @@
--- Laws of one line's entries in the tables, that several proofs cite.
+-- Laws of a line's entries in bytes, that several proofs cite.
+pub mod Bytes
 pub mod Places
+pub mod Puts
+pub mod Masks
 pub mod Surveys
 pub mod Answers

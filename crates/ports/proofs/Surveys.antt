@@ -1,72 +1,233 @@
--- The survey, one port more at a time. Assumes nothing.
-use Prim.Native.Nat.{ℕ, suc, _+_, _<_, _≤_}
-use mathlib.Core.Path.{_≡_, refl, ap, _∙_}
+-- The survey in lanes: what an entry says, from a row by its tag and a bit by its byte; and one port more at a time. Assumes nothing.
+use Prim.Native.Nat.{ℕ, zero, suc, _+_, _*_, _-_, _/_, _%_, _^_, _<_, _≤_}
+use mathlib.Core.Path.{_≡_, refl, sym, ap, _∙_}
 use mathlib.Core.Bool.{Bool, true, false, cond, _&&_, _||_, not}
 use mathlib.Core.List.{List}
+use native.Mathlib.Omega.{arith}
+use native.Mathlib.Nat.{mod-lt}
 use lib.ListN.{getD}
 use lib.Dec.{eqb, ltb}
-use native.Mathlib.Omega.{arith}
-use native.Mathlib.Numerals.{add-one}
-use borrow.Author.Tests.{not-true}
+use lib.Arith.{digits-div, digits-mod}
+use lib.Pow.{pow-mono}
+use borrow.Author.Tests.{eqb-true, eqb-false, lt-ltb, le-ltb, ltb-true, ltb-false, ne-eqb, not-true, not-false}
 use Rattle.protocol.specs.declared.state.State.{State}
 use Rattle.protocol.specs.declared.state.State.the-variants.{I}
-use Rattle.protocol.specs.declared.state.Byte.{Byte}
-use Rattle.protocol.specs.State.{stateOf, orInvalid, isState, valid, owner}
-use Rattle.model.specs.Below.{allBelow, anyBelow, none, number, orElse, lowest, atOr}
-use Rattle.model.proofs.Below.{any-below, lowest-cases}
+use Rattle.protocol.specs.State.{stateOf, stateRow, orInvalid, isState, valid, owner}
+use Rattle.protocol.proofs.States.{state-row-is}
+use Rattle.words.specs.Bools.{bit}
+use Rattle.words.proofs.Bools.{Is, and-l, by-bool}
+use Rattle.model.specs.Below.{allBelow, anyBelow}
+use Rattle.model.proofs.Below.{below-all}
+use Rattle.endian.specs.Little.{numbers}
+use Rattle.model.specs.declared.shape.Shape.{Shape}
+use Rattle.model.specs.declared.shape.Place.{Place}
+use Rattle.model.specs.Shape.{entries, indexOf, entryOf}
+use Rattle.model.specs.Tables.{Model, sound, seen, holds, owns, dirty, columnSound}
+use Rattle.model.proofs.Bounds.{limit-is}
+use Rattle.model.proofs.Entries.{entry-index}
 use Rattle.ports.specs.declared.line.Line.{Line}
-use Rattle.ports.specs.declared.survey.Look.{Look}
-use Rattle.ports.specs.declared.survey.Survey.{Survey}
-use Rattle.ports.specs.Line.{numberOf, seenIn}
-use Rattle.ports.specs.Survey.{lookAt, soundIn, ownsIn, noted, surveyOf}
+use Rattle.ports.specs.declared.survey.Masks.{Masks}
+use Rattle.ports.specs.Bytes.{tablesIn}
+use Rattle.ports.specs.Line.{Placed}
+use Rattle.ports.specs.Masks.{portsFrom, lanes, saysOf, lookLanes, masksOf}
+use Rattle.ports.specs.Bus.{AllStates}
+use Rattle.ports.proofs.Places.{some, few, index-is, tag-is, limit-at}
+use Rattle.ports.proofs.Masks.{bit-le, bit-is, mask-lt, mask-bit, mask-any}
 
--- An entry that has the tag holds or owns the line by its state.
-pub valid-here : (b : Bool) (x : State) → (b && valid x) ≡ valid (cond b x I)
-valid-here true x = refl
-valid-here false x = refl
+-- The three rows, and what bit b of their lanes is.
+abbrev rowOf : Bool → Bool → ℕ
+rowOf here near = cond here 0xE1F818001E06 (cond near 0xE1F800000000 0xFFFE00000000)
 
-owner-here : (b : Bool) (x : State) → (b && owner x) ≡ owner (cond b x I)
-owner-here true x = refl
-owner-here false x = refl
+abbrev lanesOf : ℕ → ℕ
+lanesOf x = x % 2 + x / 65536 % 2 * 65536 + x / 4294967296 % 2 * 4294967296
 
-pub look-is : (l : Line) (t b : ℕ) {y : Byte} {v s o : Bool} → y ≡ stateOf b → v ≡ valid (orInvalid y) → s ≡ isState y → o ≡ owner (orInvalid y)
-    → _≡_ {A = Look} (record { sound = s && (not v || ltb t (l .limit)); holds = eqb t (l .tag) && v; owns = eqb t (l .tag) && o }) (lookAt l t b)
-unfolding lookAt
-look-is l t b ey ev es eo =
-    rw (eo, es, ev, ey, valid-here (eqb t (l .tag)) (orInvalid (stateOf b)), owner-here (eqb t (l .tag)) (orInvalid (stateOf b)))
+abbrev rightRow : Bool → Bool → ℕ → Bool
+rightRow here near b = eqb (lanesOf (rowOf here near / 2 ^ b)) (saysOf here near b)
 
--- The lowest number with one more: the one before, or else the new one if it passes.
-lowest-more : (at : ℕ → ℕ) (f : ℕ → Bool) (n : ℕ) → cond (f n && not (anyBelow f n)) (at n) (atOr at 0 (lowest f n)) ≡ atOr at 0 (lowest f (suc n))
-unfolding lowest orElse atOr
-lowest-more at f n =
-    lowest-cases (λ l. cond (f n && not (anyBelow f n)) (at n) (atOr at 0 l) ≡ atOr at 0 (orElse l (cond (f n) (number n) none))) f n
-    (λ p h x. rw (any-below f n p h x) (never (f n) (at n) (at p)))
-    (λ u. rw (not-true (anyBelow f n) u) (by-first (f n)))
+row-here : Is (allBelow (rightRow true true) 16)
+unfolding allBelow stateOf
+row-here = refl
+
+row-near : Is (allBelow (rightRow false true) 16)
+unfolding allBelow stateOf
+row-near = refl
+
+row-far : Is (allBelow (rightRow false false) 16)
+unfolding allBelow stateOf
+row-far = refl
+
+-- A byte from 16 on is no state, as 15 is none.
+clamped : (b : ℕ) → stateOf (cond (ltb b 16) b 15) ≡ stateOf b
+unfolding stateOf
+clamped b =
+    by-bool (ltb b 16) (λ h. rw h)
+    (λ h. let k : 16 ≤ b = ltb-false b 16 (not-true (ltb b 16) h) in
+    rw (not-true (ltb b 16) h, apart k 0 (omega arith), apart k 1 (omega arith), apart k 2 (omega arith), apart k 9 (omega arith), apart k 10 (omega arith), apart k 11 (omega arith), apart k 12 (omega arith)))
   where
-    never : (b : Bool) (x y : ℕ) → cond (b && false) x y ≡ y
-    never true x y = refl
-    never false x y = refl
+    apart : {b : ℕ} → 16 ≤ b → (n : ℕ) → n < 16 → eqb b n ≡ false
+    apart {b} h n l = ne-eqb b n (λ e. absurd (omega arith))
 
-    by-first : (b : Bool) → cond (b && true) (at n) 0 ≡ atOr at 0 (orElse none (cond b (number n) none))
-    by-first true = refl
-    by-first false = refl
+in-row : (b : ℕ) → cond (ltb b 16) b 15 < 16
+in-row b = by-bool (ltb b 16) (λ h. rw h (ltb-true b 16 h)) (λ h. rw (not-true (ltb b 16) h) (omega arith))
 
-pub record Surveying (l : Line) (g h : List ℕ) (i : ℕ) (s : Survey) (p : ℕ) : Type 0 where
-  pub below : p ≤ l .ports
-  pub now : s ≡ surveyOf l g h i p
+right-row : (here near : Bool) → Is (allBelow (rightRow here near) 16) → (b : ℕ) → b < 16 → lanesOf (rowOf here near / 2 ^ b) ≡ saysOf here near b
+right-row here near h b l = eqb-true _ _ (below-all (rightRow here near) 16 h b l)
 
-pub surveying-none : (l : Line) (g h : List ℕ) (i : ℕ) → Surveying l g h i (record { sound = true; shared = false; dirty = false; first = 0 }) 0
-unfolding surveyOf allBelow anyBelow lowest atOr
-surveying-none l g h i = record { below = omega arith; now = refl }
+-- What an entry says, as the code finds it.
+pub lanes-are : (x : Place) (t b : ℕ) → x .tag < x .limit → {here away row n : ℕ} → here ≡ stateRow
+    → away ≡ cond (ltb t (x .limit)) (here / 4294967296 * 4294967296) (here / 4294967296 * 4294967296 + here % 65536 * 4294967296)
+    → row ≡ cond (eqb t (x .tag)) here away → n ≡ cond (ltb b 16) b 15 → lanesOf (row / 2 ^ n) ≡ lookLanes x t b
+unfolding lookLanes
+lanes-are x t b there eh ea er en =
+    let k : ℕ = cond (ltb b 16) b 15 in
+    rw (en, er, ea, eh, state-row-is, ← clamped b)
+    (by-bool (eqb t (x .tag))
+    (λ h. let near : ltb t (x .limit) ≡ true = rw (eqb-true t (x .tag) h) (lt-ltb (x .tag) (x .limit) there) in rw (near, h) (right-row true true row-here k (in-row b)))
+    (λ h. rw (not-true (eqb t (x .tag)) h)
+    (by-bool (ltb t (x .limit)) (λ n. rw n (right-row false true row-near k (in-row b))) (λ n. rw (not-true (ltb t (x .limit)) n) (right-row false false row-far k (in-row b))))))
 
-survey-more : (l : Line) (g h : List ℕ) (i p : ℕ)
-    → noted (surveyOf l g h i p) (lookAt l (getD g (numberOf l p) 0) (getD h (numberOf l p) 0)) (numberOf l p) (not (eqb p i)) ≡ surveyOf l g h i (suc p)
-unfolding surveyOf noted lookAt soundIn seenIn allBelow anyBelow
-survey-more l g h i p = rw (← lowest-more (numberOf l) (ownsIn l g h) p)
+-- The row as a number, by which the sums and products made from it fit their type.
+pub row-fits : {here : ℕ} → here ≡ stateRow → here ≡ 0xE1F818001E06
+row-fits e = e ∙ state-row-is
 
-pub surveying-more : (l : Line) (g h : List ℕ) (i : ℕ) {s : Survey} {p : ℕ} {k : Look} {r : Survey} → Surveying l g h i s p → p < l .ports
-    → k ≡ lookAt l (getD g (numberOf l p) 0) (getD h (numberOf l p) 0) → r ≡ noted s k (numberOf l p) (not (eqb p i)) → Surveying l g h i r (p + 1)
-surveying-more l g h i {p = p} v q e f = record { below = omega arith; now = rw (add-one, f, e, v .now) (survey-more l g h i p) }
+pub shift-below : (b : ℕ) {n : ℕ} → n ≡ cond (ltb b 16) b 15 → n < 16
+shift-below b e = rw e (in-row b)
 
-pub surveying-done : {l : Line} {g h : List ℕ} {i : ℕ} {s : Survey} {p : ℕ} → Surveying l g h i s p → l .ports ≤ p → s ≡ surveyOf l g h i (l .ports)
-surveying-done {l} {g} {h} {i} {s} {p} v q = let e : p ≡ l .ports = omega (arith, v .below) in v .now ∙ ap (surveyOf l g h i) e
+pub look-fits : (x : Place) (t b : ℕ) {n : ℕ} → n ≡ lookLanes x t b → n < 8589934592
+unfolding lookLanes
+look-fits x t b e = fits (eqb t (x .tag)) (ltb t (x .limit)) e
+  where
+    fits : (here near : Bool) {n : ℕ} → n ≡ saysOf here near b → n < 8589934592
+    fits here near e =
+        let seen = cond here (orInvalid (stateOf b)) I in
+        omega (arith, e, bit-le (valid seen), bit-le (owner seen), bit-le (not (isState (stateOf b) && (not (valid (orInvalid (stateOf b))) || near))))
+
+-- A lane by itself.
+lane-one : (x y z : ℕ) → x < 65536 → lanes x y z % 65536 ≡ x
+lane-one x y z h = ap (λ (n : ℕ). n % 65536) (split x y z) ∙ digits-mod (y + 65536 * z) h
+  where
+    split : (x y z : ℕ) → lanes x y z ≡ (y + 65536 * z) * 65536 + x
+    split x y z = omega arith
+
+lane-two : (x y z : ℕ) → x < 65536 → y < 65536 → lanes x y z / 65536 % 65536 ≡ y
+lane-two x y z h k = ap (λ (n : ℕ). n / 65536 % 65536) (split x y z) ∙ ap (λ (n : ℕ). n % 65536) (digits-div (z * 65536 + y) h) ∙ digits-mod z k
+  where
+    split : (x y z : ℕ) → lanes x y z ≡ (z * 65536 + y) * 65536 + x
+    split x y z = omega arith
+
+-- The loop, from the last port down to port p: the lanes of the ports from p on.
+abbrev soundBy : Shape → Model → ℕ → ℕ → Bool
+soundBy s t a p = sound s t (entryOf s a p)
+
+abbrev unsound : Shape → Model → ℕ → ℕ → Bool
+unsound s t a p = not (sound s t (entryOf s a p))
+
+abbrev lanesFrom : Shape → Model → ℕ → ℕ → ℕ → ℕ
+lanesFrom s t a p n = lanes (portsFrom (holds s t a) p n) (portsFrom (owns s t a) p n) (portsFrom (unsound s t a) p n)
+
+pub record Surveyed (s : Shape) (t : Model) (a sum p : ℕ) : Type 0 where
+  pub count : ℕ
+  pub all : p + count ≡ s .ports
+  pub now : sum ≡ lanesFrom s t a p count
+
+module _ (l : Line) (v : Placed l) (g h d : List ℕ) where
+  abbrev s : Shape
+  s = l .shape
+
+  abbrev a : ℕ
+  a = l .number
+
+  abbrev t : Model
+  t = tablesIn (l .shape) g h d
+
+  pub surveyed-none : Surveyed s t a 0 (s .ports)
+  unfolding portsFrom
+  surveyed-none = record { count = 0; all = omega arith; now = refl }
+
+  lane-lt : (f : ℕ → Bool) (p n : ℕ) → p + n ≡ s .ports → portsFrom f p n < 256
+  lane-lt f p n e = omega (arith, mask-lt f p n, pow-mono {i = n} {j = 8} (omega (arith, few v)))
+
+  -- The sum fits its type.
+  pub surveyed-fits : {sum p : ℕ} → Surveyed s t a sum p → sum < 2199023255552
+  surveyed-fits {sum} {p} u =
+      omega (arith, u .now, lane-lt (holds s t a) p (u .count) (u .all), lane-lt (owns s t a) p (u .count) (u .all), lane-lt (unsound s t a) p (u .count) (u .all))
+
+  abbrev at : ℕ → ℕ
+  at p = p * l .shape .sets + l .place .index
+
+  look-lanes : (p : ℕ) → lookLanes (l .place) (getD (numbers 4 (entries s) g) (at p) 0) (getD h (at p) 0) ≡ lanes (bit (holds s t a p)) (bit (owns s t a p)) (bit (unsound s t a p))
+  unfolding lookLanes seen sound tablesIn
+  look-lanes p =
+      rw (index-is v, tag-is v, limit-at v, entry-index s (some v) a p, limit-is (getD (numbers 4 (entries s) g) (entryOf s a p) 0) (s .sets) (indexOf s a) (s .lines) (mod-lt a (some v)))
+
+  pub surveyed-more : {sum p q x y : ℕ} → Surveyed s t a sum p → q + 1 ≡ p → x ≡ lookLanes (l .place) (getD (numbers 4 (entries s) g) (at q) 0) (getD h (at q) 0) → y ≡ 2 * sum + x → Surveyed s t a y q
+  unfolding portsFrom
+  surveyed-more {sum} {p} {q} {x} u ep ex ey =
+      let e : p ≡ suc q = omega arith in
+      record { count = suc (u .count); all = omega (arith, u .all); now = omega (arith, ey, ex, look-lanes q, rw e at u .now) }
+
+  -- All ports are passed: the lanes are the masks.
+  not-all : (f : ℕ → Bool) (n : ℕ) → anyBelow (λ p. not (f p)) n ≡ not (allBelow f n)
+  unfolding anyBelow allBelow
+  not-all f zero = refl
+  not-all f (suc n) = rw (not-all f n) (nand (allBelow f n) (f n))
+    where
+      nand : (a b : Bool) → (not a || not b) ≡ not (a && b)
+      nand true b = refl
+      nand false b = refl
+
+  pub surveyed-done : {sum p : ℕ} → Surveyed s t a sum p → p ≤ 0
+      → _≡_ {A = Masks} (record { sound = ltb sum 4294967296; holders = sum % 65536; owners = sum / 65536 % 65536 }) (masksOf s t a)
+  unfolding masksOf columnSound
+  surveyed-done {sum} {p} u z =
+      let n : u .count ≡ s .ports = omega (arith, u .all) in
+      let e : p ≡ 0 = omega arith in
+      let now : sum ≡ lanesFrom s t a 0 (s .ports) = u .now ∙ ap (λ (x : ℕ). lanesFrom s t a x (u .count)) e ∙ ap (lanesFrom s t a 0) n in
+      let la = lane-lt (holds s t a) 0 (s .ports) (omega arith) in
+      let lb = lane-lt (owns s t a) 0 (s .ports) (omega arith) in
+      let holders : sum % 65536 ≡ portsFrom (holds s t a) 0 (s .ports) = rw now (lane-one _ (portsFrom (owns s t a) 0 (s .ports)) (portsFrom (unsound s t a) 0 (s .ports)) (omega (arith, la))) in
+      let owners : sum / 65536 % 65536 ≡ portsFrom (owns s t a) 0 (s .ports) = rw now (lane-two (portsFrom (holds s t a) 0 (s .ports)) _ (portsFrom (unsound s t a) 0 (s .ports)) (omega (arith, la)) (omega (arith, lb))) in
+      let fine : ltb sum 4294967296 ≡ allBelow (soundBy s t a) (s .ports) = by-bool (allBelow (soundBy s t a) (s .ports))
+      (λ y. rw y (lt-ltb sum 4294967296 (omega (arith, now, la, lb, empty y))))
+      (λ y. rw (not-true (allBelow (soundBy s t a) (s .ports)) y) (le-ltb sum 4294967296 (omega (arith, now, filled y))))
+      in rw (holders, owners, fine)
+    where
+      any : not (eqb (portsFrom (unsound s t a) 0 (s .ports)) 0) ≡ not (allBelow (soundBy s t a) (s .ports))
+      any = mask-any (unsound s t a) (s .ports) ∙ not-all (soundBy s t a) (s .ports)
+
+      empty : Is (allBelow (soundBy s t a) (s .ports)) → portsFrom (unsound s t a) 0 (s .ports) ≡ 0
+      empty y = eqb-true _ _ (not-false _ (any ∙ ap not y))
+
+      filled : Is (not (allBelow (soundBy s t a) (s .ports))) → 0 < portsFrom (unsound s t a) 0 (s .ports)
+      filled y = positive _ (eqb-false _ _ (not-true _ (any ∙ y)))
+        where
+          positive : (n : ℕ) → (n ≡ 0 → ⊥) → 0 < n
+          positive n h = omega (arith, h)
+
+-- What the masks say is what the definitions ask, in the tables with any memory beside them.
+module _ (s : Shape) (t : Model) (a : ℕ) {x : Masks} (e : x ≡ masksOf s t a) where
+  pub masks-sound : x .sound ≡ columnSound s t a
+  unfolding masksOf
+  masks-sound = ap (λ (x : Masks). x .sound) e
+
+  pub masks-holders : x .holders ≡ portsFrom (holds s t a) 0 (s .ports)
+  unfolding masksOf
+  masks-holders = ap (λ (x : Masks). x .holders) e
+
+  pub masks-owners : x .owners ≡ portsFrom (owns s t a) 0 (s .ports)
+  unfolding masksOf
+  masks-owners = ap (λ (x : Masks). x .owners) e
+
+  pub masks-hit : (i : ℕ) → i < s .ports → eqb (x .holders / 2 ^ i % 2) 1 ≡ holds s t a i
+  masks-hit i port = rw (masks-holders, mask-bit (holds s t a) (s .ports) i port) (bit-is (holds s t a i))
+
+  pub masks-own : (i : ℕ) → i < s .ports → eqb (x .owners / 2 ^ i % 2) 1 ≡ owns s t a i
+  masks-own i port = rw (masks-owners, mask-bit (owns s t a) (s .ports) i port) (bit-is (owns s t a i))
+
+  pub masks-dirty : not (eqb (x .owners) 0) ≡ dirty s t a
+  unfolding dirty
+  masks-dirty = rw masks-owners (mask-any (owns s t a) (s .ports))
+
+  pub masks-states : Is (x .sound) → AllStates s a (t .states)
+  unfolding columnSound sound
+  masks-states u p q = and-l (isState (stateOf (getD (t .states) (entryOf s a p) 0))) _ (below-all (soundBy s t a) (s .ports) (sym masks-sound ∙ u) p q)

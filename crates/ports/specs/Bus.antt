@@ -1,50 +1,55 @@
--- A bus command, and what the other ports' entries are after it.
-use Prim.Native.Nat.{ℕ, _%_}
-use mathlib.Core.Bool.{Bool, cond, _&&_, not}
+-- A bus command in numbers, a holder's answer to it in bytes, and the tables after every other holder has answered.
+use Prim.Native.Nat.{ℕ, _*_, _%_, _<_}
+use mathlib.Core.Path.{_≡_}
+use mathlib.Core.Bool.{Bool, true, cond, _&&_, not}
+use mathlib.Core.List.{List}
 use lib.ListN.{getD, set}
+use lib.Seq.{sets}
 use lib.Dec.{eqb}
-use Rattle.protocol.specs.State.{stateOf, orInvalid, valid}
-use Rattle.protocol.specs.Rules.{updates}
+use Rattle.endian.specs.Little.{bytesOf}
+use Rattle.protocol.specs.declared.rules.Bus.{Bus}
+use Rattle.protocol.specs.State.{code, stateOf, orInvalid, isState, valid}
+use Rattle.protocol.specs.Rules.{snooped, updates}
 use Rattle.protocol.specs.Coded.{busAt, nibbleAt, snoopRow}
+use Rattle.model.specs.declared.shape.Shape.{Shape}
+use Rattle.model.specs.Shape.{entryOf}
+use Rattle.model.specs.Tables.{Model, model, seen, wordAt, holds}
 use Rattle.model.specs.Step.{putBelow}
-use Rattle.ports.specs.declared.line.Line.{Line}
 use Rattle.ports.specs.declared.bus.Command.{Command}
-use Rattle.ports.specs.Line.{Tables, tables, numberOf}
+use Rattle.ports.specs.Entry.{tagIn}
 
 -- The command of a number: its row of the snoop table, and whether it hands the new word on.
 unfoldable pub commandOf : ℕ → Command
 commandOf n = record { row = snoopRow n; hands = updates (busAt n) }
 
--- The byte and the word that an entry with tag t, byte b and word x has after command c for the line with the tag given, whose new word
--- is w.
-abbrev pub byteReply : Command → ℕ → ℕ → ℕ → ℕ
-byteReply c tag t b = cond (eqb t tag) (nibbleAt (c .row) (b % 16)) b
+-- Entry k holds the line with the tag given.
+pub record Holder (tag : ℕ) (tags states : List ℕ) (k : ℕ) : Type 0 where
+  pub same : tagIn tags k ≡ tag
+  pub held : valid (orInvalid (stateOf (getD states k 0))) ≡ true
 
-abbrev pub wordReply : Command → ℕ → ℕ → ℕ → ℕ → ℕ → ℕ
-wordReply c tag w t b x = cond (eqb t tag && valid (orInvalid (stateOf b)) && c .hands) w x
+-- A holder's answer to a command, in bytes: entry k's.
+unfoldable pub statesAnswered : Command → ℕ → List ℕ → List ℕ
+statesAnswered c k states = set states k (nibbleAt (c .row) (getD states k 0 % 16))
 
--- One entry answers.
-unfoldable pub answerAt : Command → ℕ → ℕ → ℕ → Tables → Tables
-answerAt c tag w k t =
-    tables (t .tags)
-    (set (t .states) k (byteReply c tag (getD (t .tags) k 0) (getD (t .states) k 0)))
-    (set (t .words) k (wordReply c tag w (getD (t .tags) k 0) (getD (t .states) k 0) (getD (t .words) k 0)))
+unfoldable pub wordsAnswered : Command → ℕ → ℕ → List ℕ → List ℕ
+wordsAnswered c w k words = cond (c .hands) (sets words (8 * k) (bytesOf 8 w)) words
 
--- The byte and the word of port p's entry after every port but i has answered.
-module _ (l : Line) (c : Command) (w i : ℕ) (t : Tables) where
+-- Every port's byte at the line's index is a state.
+abbrev pub AllStates : Shape → ℕ → List ℕ → Type 0
+AllStates s a states = (p : ℕ) → p < s .ports → isState (stateOf (getD states (entryOf s a p) 0)) ≡ true
+
+-- A port other than i holds line a.
+abbrev pub other : Shape → Model → ℕ → ℕ → ℕ → Bool
+other s t i a p = not (eqb p i) && holds s t a p
+
+-- The tables after the other holders among the first n ports have answered command b, where the line's new word is w: the byte and the
+-- word of port p's entry, as the model's `byteAfter` and `wordAfter` have them, i's own left as it is.
+module _ (s : Shape) (t : Model) (i a : ℕ) (b : Bus) (w : ℕ) where
   unfoldable pub byteAnswered : ℕ → ℕ
-  byteAnswered p =
-      cond (eqb p i) (getD (t .states) (numberOf l p) 0) (byteReply c (l .tag) (getD (t .tags) (numberOf l p) 0) (getD (t .states) (numberOf l p) 0))
+  byteAnswered p = cond (other s t i a p) (code (snooped b (seen s t a p))) (getD (t .states) (entryOf s a p) 0)
 
   unfoldable pub wordAnswered : ℕ → ℕ
-  wordAnswered p =
-      cond (eqb p i) (getD (t .words) (numberOf l p) 0)
-      (wordReply c (l .tag) w (getD (t .tags) (numberOf l p) 0) (getD (t .states) (numberOf l p) 0) (getD (t .words) (numberOf l p) 0))
+  wordAnswered p = cond (other s t i a p && updates b) w (wordAt s t a p)
 
-  -- The tables after the first n ports, i left out, have answered.
-  unfoldable pub answered : ℕ → Tables
-  answered n = tables (t .tags) (putBelow (numberOf l) byteAnswered n (t .states)) (putBelow (numberOf l) wordAnswered n (t .words))
-
--- The tables after command number n, which is not sent where no other port holds the line or there is nothing to say.
-unfoldable pub asked : Line → Bool → ℕ → ℕ → ℕ → Tables → Tables
-asked l shared n w i t = cond (shared && not (eqb n 0)) (answered l (commandOf n) w i t (l .ports)) t
+  unfoldable pub answered : ℕ → Model
+  answered n = model (t .memory) (t .tags) (putBelow (entryOf s a) byteAnswered n (t .states)) (putBelow (entryOf s a) wordAnswered n (t .words))

@@ -1,4 +1,6 @@
--- What the code on a line's entries computes.
+-- The three tables as little-endian bytes, and what the code on one line's entries computes.
+pub mod Bytes
+pub mod Entry
 pub mod Line
-pub mod Survey
+pub mod Masks
 pub mod Bus

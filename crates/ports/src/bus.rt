@@ -1,13 +1,15 @@
-// The bus: each other port answers a command from its own part of the three tables.
+// The bus: each other holder of a line answers a command from its own part of the three tables.
+use crate::entry;
 use crate::line::Line;
 use protocol::rules;
-use protocol::state;
-use words::choose;
 ghost use mathlib.Core.Path.{_≡_};
-ghost use mathlib.Core.Bool.{cond};
 ghost use Prim.Native.Nat.{_+_, _<_};
-ghost use Rattle.ports.specs.Line.{tables, Within, Sized};
-ghost use Rattle.ports.specs.Bus.{commandOf, answerAt, answered, asked};
+ghost use Rattle.protocol.specs.Coded.{busAt};
+ghost use Rattle.ports.specs.Bytes.{tablesIn, Filled};
+ghost use Rattle.ports.specs.Entry.{Room};
+ghost use Rattle.ports.specs.Line.{Placed};
+ghost use Rattle.ports.specs.Masks.{portsFrom};
+ghost use Rattle.ports.specs.Bus.{commandOf, Holder, statesAnswered, wordsAnswered, other, AllStates, answered};
 
 // A bus command as the ports hear it: its row of the snoop table, and whether it hands the new word to the holders.
 pub struct Command {
@@ -15,7 +17,7 @@ pub struct Command {
     pub hands: bool,
 }
 
-pub fn command_of(bus: u8) -> Command
+fn command_of(bus: u8) -> Command
     requires { ⌜ bus < 7 ⌝ }
     ensures { λ r. ⌜ r ≡ commandOf bus ⌝ }
 {
@@ -25,106 +27,118 @@ pub fn command_of(bus: u8) -> Command
     }
 }
 
-// A port's answer, from its own part of the tables; w is the line's new word.
+// A holder's answer, from its own part of the tables; w is the line's new word.
 fn answer(
-    tags: &mut [u32],
+    tags: &mut [u8],
     states: &mut [u8],
-    data: &mut [u64],
+    words: &mut [u8],
     index: usize,
     tag: u32,
     c: Command,
     w: u64,
 )
-    requires { ⌜ Within (tables (now tags) (now states) (now «data»)) index ⌝ }
-    ensures { λ r. ⌜ tables (now (tags .exit)) (now (states .exit)) (now («data» .exit)) ≡ answerAt c tag w index (tables (now (tags .entry)) (now (states .entry)) (now («data» .entry))) ⌝ }
+    requires { ⌜ Room (now tags) (now states) (now words) index ⌝ }
+    requires { ⌜ Holder tag (now tags) (now states) index ⌝ }
+    ensures { λ r. ⌜ now (tags .exit) ≡ now (tags .entry) ⌝ }
+    ensures { λ r. ⌜ now (states .exit) ≡ statesAnswered c index (now (states .entry)) ⌝ }
+    ensures { λ r. ⌜ now (words .exit) ≡ wordsAnswered c w index (now (words .entry)) ⌝ }
 {
-    let here = tags[index] == tag;
-    let b = states[index];
-    let x = data[index];
-    let valid = state::is_valid(state::byte_state(b));
-    let next = rules::nibble(c.row, b);
-    states[index] = choose::choose_byte(here, next, b);
-    data[index] = choose::choose_word(here & valid & c.hands, w, x);
-}
-
-// The same where the port is another than the asking one; its part starts at from.
-fn answer_from(
-    tags: &mut [u32],
-    states: &mut [u8],
-    data: &mut [u64],
-    from: usize,
-    other: bool,
-    index: usize,
-    tag: u32,
-    c: Command,
-    w: u64,
-)
-    requires { ⌜ Within (tables (now tags) (now states) (now «data»)) (from + index) ⌝ }
-    ensures { λ r. ⌜ tables (now (tags .exit)) (now (states .exit)) (now («data» .exit)) ≡ cond other (answerAt c tag w (from + index) (tables (now (tags .entry)) (now (states .entry)) (now («data» .entry)))) (tables (now (tags .entry)) (now (states .entry)) (now («data» .entry))) ⌝ }
-{
-    if other {
-        answer(
-            &mut tags[from..],
-            &mut states[from..],
-            &mut data[from..],
-            index,
-            tag,
-            c,
-            w,
-        );
+    let next = rules::nibble(c.row, states[index]);
+    states[index] = next;
+    if c.hands {
+        entry::put_word(words, index, w);
     }
 }
 
-// Every port but i answers.
-fn broadcast(
-    tags: &mut [u32],
+// The same in the whole tables; the port's part starts at entry from.
+fn answer_from(
+    tags: &mut [u8],
     states: &mut [u8],
-    data: &mut [u64],
-    line: Line,
-    i: usize,
+    words: &mut [u8],
+    from: usize,
+    index: usize,
+    tag: u32,
     c: Command,
     w: u64,
 )
-    requires { ⌜ Sized line (now tags) (now states) ⌝ }
-    requires { ⌜ Sized line (now tags) (now «data») ⌝ }
-    ensures { λ r. ⌜ tables (now (tags .exit)) (now (states .exit)) (now («data» .exit)) ≡ answered line c w i (tables (now (tags .entry)) (now (states .entry)) (now («data» .entry))) (line .ports) ⌝ }
+    requires { ⌜ Room (now tags) (now states) (now words) (from + index) ⌝ }
+    requires { ⌜ Holder tag (now tags) (now states) (from + index) ⌝ }
+    ensures { λ r. ⌜ now (tags .exit) ≡ now (tags .entry) ⌝ }
+    ensures { λ r. ⌜ now (states .exit) ≡ statesAnswered c (from + index) (now (states .entry)) ⌝ }
+    ensures { λ r. ⌜ now (words .exit) ≡ wordsAnswered c w (from + index) (now (words .entry)) ⌝ }
 {
-    let ports = line.ports;
-    let sets = line.sets;
-    let mut p = 0;
-    while p < ports {
+    let tags_from = 4 * from;
+    let words_from = 8 * from;
+    answer(
+        &mut tags[tags_from..],
+        &mut states[from..],
+        &mut words[words_from..],
+        index,
+        tag,
+        c,
+        w,
+    );
+}
+
+// Every port of the mask answers command number bus; the mask has the holders but i.
+fn broadcast(
+    tags: &mut [u8],
+    states: &mut [u8],
+    words: &mut [u8],
+    line: Line,
+    i: usize,
+    others: u64,
+    bus: u8,
+    w: u64,
+)
+    requires { ⌜ Filled (line .shape) (now tags) (now states) (now words) ⌝ }
+    requires { ⌜ Placed line ⌝ }
+    requires { ⌜ AllStates (line .shape) (line .number) (now states) ⌝ }
+    requires { ⌜ others ≡ portsFrom (other (line .shape) (tablesIn (line .shape) (now tags) (now states) (now words)) i (line .number)) 0 (line .shape .ports) ⌝ }
+    requires { ⌜ bus < 7 ⌝ }
+    ensures { λ r. ⌜ tablesIn (line .shape) (now (tags .exit)) (now (states .exit)) (now (words .exit)) ≡ answered (line .shape) (tablesIn (line .shape) (now (tags .entry)) (now (states .entry)) (now (words .entry))) i (line .number) (busAt bus) w (line .shape .ports) ⌝ }
+{
+    let c = command_of(bus);
+    let sets = line.shape.sets;
+    let mut rest = others;
+    let mut p = 0usize;
+    while rest != 0 {
+        let skipped = u64::trailing_zeros(rest);
+        let q = p + skipped as usize;
         answer_from(
             tags,
             states,
-            data,
-            p * sets,
-            p != i,
-            line.index,
-            line.tag,
+            words,
+            q * sets,
+            line.place.index,
+            line.place.tag,
             c,
             w,
         );
-        p += 1;
+        rest = (rest >> skipped) / 2;
+        p = q + 1;
     }
 }
 
 // Sends a command, unless there is nobody to hear it or nothing to say.
 pub fn ask(
-    tags: &mut [u32],
+    tags: &mut [u8],
     states: &mut [u8],
-    data: &mut [u64],
+    words: &mut [u8],
     line: Line,
     i: usize,
-    shared: bool,
+    others: u64,
     bus: u8,
     w: u64,
 )
-    requires { ⌜ Sized line (now tags) (now states) ⌝ }
-    requires { ⌜ Sized line (now tags) (now «data») ⌝ }
+    requires { ⌜ Filled (line .shape) (now tags) (now states) (now words) ⌝ }
+    requires { ⌜ Placed line ⌝ }
+    requires { ⌜ AllStates (line .shape) (line .number) (now states) ⌝ }
+    requires { ⌜ others ≡ portsFrom (other (line .shape) (tablesIn (line .shape) (now tags) (now states) (now words)) i (line .number)) 0 (line .shape .ports) ⌝ }
     requires { ⌜ bus < 7 ⌝ }
-    ensures { λ r. ⌜ tables (now (tags .exit)) (now (states .exit)) (now («data» .exit)) ≡ asked line shared bus w i (tables (now (tags .entry)) (now (states .entry)) (now («data» .entry))) ⌝ }
+    ensures { λ r. ⌜ tablesIn (line .shape) (now (tags .exit)) (now (states .exit)) (now (words .exit)) ≡ answered (line .shape) (tablesIn (line .shape) (now (tags .entry)) (now (states .entry)) (now (words .entry))) i (line .number) (busAt bus) w (line .shape .ports) ⌝ }
 {
-    if shared & (bus != 0) {
-        broadcast(tags, states, data, line, i, command_of(bus), w);
+    if (others != 0) & (bus != 0) {
+        broadcast(tags, states, words, line, i, others, bus, w);
     }
 }

@@ -1,80 +1,70 @@
 // One look at every port's entry for a line.
+use crate::entry;
 use crate::line::Line;
+use model::shape::Place;
 use protocol::state;
 use words::choose;
 ghost use mathlib.Core.Path.{_≡_};
 ghost use Prim.Native.Nat.{_<_};
-ghost use lib.ListN.{getD, length};
-ghost use Rattle.ports.specs.Line.{Sized};
-ghost use Rattle.ports.specs.Survey.{lookAt, noted, surveyOf};
+ghost use lib.ListN.{getD};
+ghost use Rattle.endian.specs.Little.{numbers};
+ghost use Rattle.model.specs.Shape.{entries};
+ghost use Rattle.ports.specs.Bytes.{tablesIn, Filled};
+ghost use Rattle.ports.specs.Line.{Placed};
+ghost use Rattle.ports.specs.Masks.{lookLanes, masksOf};
 
-// What an entry says: that it is sound, that it holds the line, that it owns it.
-pub struct Look {
+// What the ports say of a line: that every entry is sound, the ports that hold the line, and those that own it. Bit p is port p's.
+pub struct Masks {
     pub sound: bool,
-    pub holds: bool,
-    pub owns: bool,
+    pub holders: u64,
+    pub owners: u64,
 }
 
-// What the ports say together: that every entry is sound, that another port than the asking one holds the line, that some port owns it,
-// and the number of the lowest-numbered owner's entry, 0 if there is none.
-pub struct Survey {
-    pub sound: bool,
-    pub shared: bool,
-    pub dirty: bool,
-    pub first: usize,
-}
-
-pub fn look_at(line: Line, t: u32, b: u8) -> Look
-    ensures { λ r. ⌜ r ≡ lookAt line t b ⌝ }
+// What an entry with the tag t and the state byte b says, in three lanes of 16 bits: bit 0 that it holds the line, bit 16 that it owns it,
+// bit 32 that it is unsound. Bit b of a row's lanes says it of byte b: for the line's tag the row is the match's own; for another tag below
+// the limit only what is no state counts; for one not below it, all but I. A byte from 16 on is no state, as 15 is none, and is looked up
+// as 15. No branch depends on the entry: what tables hold follows no pattern.
+fn lanes_at(place: Place, t: u32, b: u8) -> u64
+    requires { ⌜ place .tag < place .limit ⌝ }
+    ensures { λ r. ⌜ r ≡ lookLanes place t b ⌝ }
 {
-    let s = state::byte_state(b);
-    let valid = state::is_valid(s);
-    let here = t == line.tag;
-    Look {
-        sound: state::is_state(s) & (!valid | (t < line.limit)),
-        holds: here & valid,
-        owns: here & state::is_owner(s),
+    let here = state::state_row();
+    let near = here / 4294967296 * 4294967296;
+    let far = near + here % 65536 * 4294967296;
+    let away = choose::choose_word(t < place.limit, near, far);
+    let row = choose::choose_word(t == place.tag, here, away);
+    let x = row >> choose::choose_byte(b < 16, b, 15);
+    x % 2 + x / 65536 % 2 * 65536 + x / 4294967296 % 2 * 4294967296
+}
+
+fn entry_lanes(tags: &[u8], states: &[u8], words: &[u8], line: Line, k: usize) -> u64
+    requires { ⌜ Filled (line .shape) (now tags) (now states) (now words) ⌝ }
+    requires { ⌜ Placed line ⌝ }
+    requires { ⌜ k < entries (line .shape) ⌝ }
+    ensures { λ r. ⌜ r ≡ lookLanes (line .place) (getD (numbers 4 (entries (line .shape)) (now (tags .entry))) k 0) (getD (now (states .entry)) k 0) ⌝ }
+{
+    lanes_at(line.place, entry::tag_at(tags, k), states[k])
+}
+
+// Asks every port, in one pass, the last one first.
+pub fn survey_ports(tags: &[u8], states: &[u8], words: &[u8], line: Line) -> Masks
+    requires { ⌜ Filled (line .shape) (now tags) (now states) (now words) ⌝ }
+    requires { ⌜ Placed line ⌝ }
+    ensures { λ r. ⌜ r ≡ masksOf (line .shape) (tablesIn (line .shape) (now (tags .entry)) (now (states .entry)) (now (words .entry))) (line .number) ⌝ }
+{
+    let sets = line.shape.sets;
+    let index = line.place.index;
+    let mut sum = 0u64;
+    let mut p = line.shape.ports;
+    while 0 < p {
+        p -= 1;
+        let k = p * sets + index;
+        let seen = entry_lanes(tags, states, words, line, k);
+        sum = 2 * sum + seen;
     }
-}
-
-// The survey with one more port, whose entry has the number at; other says that it isn't the asking one.
-pub fn note(s: Survey, k: Look, at: usize, other: bool) -> Survey
-    ensures { λ r. ⌜ r ≡ noted s k at other ⌝ }
-{
-    Survey {
-        sound: s.sound & k.sound,
-        shared: s.shared | (other & k.holds),
-        dirty: s.dirty | k.owns,
-        first: choose::choose_index(k.owns & !s.dirty, at, s.first),
+    Masks {
+        sound: sum < 4294967296,
+        holders: sum % 65536,
+        owners: sum / 65536 % 65536,
     }
-}
-
-fn look_entry(tags: &[u32], states: &[u8], line: Line, k: usize) -> Look
-    requires { ⌜ (k < length (now tags)) × (k < length (now states)) ⌝ }
-    ensures { λ r. ⌜ r ≡ lookAt line (getD (now (tags .entry)) k 0) (getD (now (states .entry)) k 0) ⌝ }
-{
-    look_at(line, tags[k], states[k])
-}
-
-// Asks every port, in one pass, for port i.
-pub fn survey_ports(tags: &[u32], states: &[u8], line: Line, i: usize) -> Survey
-    requires { ⌜ Sized line (now tags) (now states) ⌝ }
-    ensures { λ r. ⌜ r ≡ surveyOf line (now (tags .entry)) (now (states .entry)) i (line .ports) ⌝ }
-{
-    let ports = line.ports;
-    let sets = line.sets;
-    let mut s = Survey {
-        sound: true,
-        shared: false,
-        dirty: false,
-        first: 0,
-    };
-    let mut p = 0;
-    while p < ports {
-        let k = p * sets + line.index;
-        let seen = look_entry(tags, states, line, k);
-        s = note(s, seen, k, p != i);
-        p += 1;
-    }
-    s
 }

@@ -9,21 +9,16 @@ use lib.ListN.{length, take, drop, replicate, length-replicate}
 use borrow.Author.Tests.{eq-eqb, ne-eqb}
 use Rattle.model.specs.declared.shape.Shape.{Shape}
 use Rattle.model.specs.Shape.{entries, inRange}
-use Rattle.model.specs.Tables.{Model, lentRefusal}
+use Rattle.model.specs.Tables.{Model}
 use Rattle.model.specs.Fresh.{zeroed}
-use Rattle.model.specs.Audit.{tablesPass, audit}
+use Rattle.model.specs.Audit.{audit}
 use Rattle.endian.specs.Little.{number, numbers}
-use Rattle.packed_step.specs.Bytes.{Bytes, bytes, modelIn, Fitting}
-use Rattle.packed_step.proofs.Bytes.{lent}
+use Rattle.ports.specs.Bytes.{Bytes, bytes, modelIn, Fitting}
 use Rattle.model.proofs.Bounds.{bounded}
 use Rattle.replay.specs.declared.Played.{Played}
 use Rattle.model.specs.Marks.{modelRun}
 use Rattle.replay.specs.Trace.{shapeIn, ordersIn, traceRefusal, ordersOf, traceOrders, answersTo, placed, start, refused, played, answersOf}
 use Rattle.replay.proofs.Refusing.{whole}
-
-pub audit-passes : (s : Shape) {b : Bytes} {t : Model} {p : Bool} → Fitting s b → p ≡ tablesPass s (modelIn s b) → modelIn s b ≡ t → p ≡ audit s t
-unfolding audit
-audit-passes s {b} {t} f e g = e ∙ rw (eq-eqb (lentRefusal s t) 0 (rw g at (lent {s = s} {b = b} f)), g)
 
 -- Prefixes of zeros are the start.
 zeros : (k n : ℕ) → k ≤ n → _≡_ {A = List ℕ} (take k (replicate n 0)) (replicate k 0)

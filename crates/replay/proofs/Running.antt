@@ -14,8 +14,8 @@ use Rattle.model.specs.Tables.{Model}
 use Rattle.model.specs.Step.{Result, result, step}
 use Rattle.decode.specs.Order.{order}
 use Rattle.model.specs.Marks.{modelRun}
-use Rattle.packed_step.specs.Bytes.{Bytes, modelIn, Fitting}
-use Rattle.packed_step.proofs.Bytes.{refitted}
+use Rattle.ports.specs.Bytes.{Bytes, modelIn, Fitting}
+use Rattle.ports.proofs.Bytes.{refitted}
 use Rattle.replay.specs.Trace.{orderAt, ordersOf, five, answersTo, placed}
 
 -- Five numbers to an order.

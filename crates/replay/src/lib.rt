@@ -9,7 +9,7 @@ ghost use lib.Seq.{sets};
 ghost use Rattle.model.specs.Shape.{inRange};
 ghost use Rattle.model.specs.Audit.{audit};
 ghost use Rattle.model.specs.Marks.{modelRun};
-ghost use Rattle.packed_step.specs.Bytes.{bytes, modelIn, Fitting};
+ghost use Rattle.ports.specs.Bytes.{bytes, modelIn, Fitting};
 ghost use Rattle.replay.specs.Trace.{shapeIn, ordersIn, traceRefusal, ordersOf, traceOrders, five, answersTo, placed, start, refused, played, answersOf};
 
 // The most orders that a trace may say, and the numbers of their answers, five to an order.
@@ -99,7 +99,7 @@ fn run_orders(
     while k < n {
         let w = endian::read_eight(words, 8 * k);
         let x = endian::read_eight(operands, 8 * k);
-        let a = packed_step::step_bytes(shape, memory, tags, states, data, w, x);
+        let a = step::step_order(shape, memory, tags, states, data, w, x);
         put_answer(answers, 5 * k, a);
         k += 1;
     }
@@ -134,7 +134,7 @@ fn run_and_audit(
         n,
         answers,
     );
-    packed_audit::tables_pass(shape, memory, tags, states, data)
+    audit::audit_tables(shape, memory, tags, states, data)
 }
 
 // The orders of a trace that is not refused, on memory and tables of zeros. The operands are the part of the trace that starts in its

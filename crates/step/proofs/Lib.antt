@@ -1,2 +1,2 @@
--- Laws of the step, that several proofs cite.
+-- Laws of one order that several proofs cite.
 pub mod Orders

@@ -1,23 +1,53 @@
--- The refusal; and where there is none, every entry's test, which is the model's audit. Assumes nothing.
-use borrow.Author.Needs.{needs}
-use Rattle.audit.proofs.Verdicts.{refused, ready, accepted}
+-- The loop goes on while the indices pass; every entry passes exactly where the audit says yes. Assumes nothing.
+use Prim.Native.Nat.{_-_}
+use mathlib.Core.Path.{_∙_}
+use native.Mathlib.Omega.{arith}
+use Rattle.ports.specs.Bytes.{bytes, modelIn}
+use Rattle.audit.specs.Entries.{indexPasses, columnsPass}
+use Rattle.audit.proofs.Passing.{Passing, passing-none, passing-fails, passing-more, passing-done}
+use Rattle.audit.proofs.Places.{columns-say}
 use Rattle.audit.proofs.audit_tables.Statement.{statement}
 use Rattle.audit.proofs.audit_tables.Tie as tie
 
-returns : tie.Need-returns
-returns c = refused _ _ (c .before .refusal .ensures) (c .if1 .taken)
+abbrev Inv-loop : tie.InvT-loop
+Inv-loop shape memory tags states words sets x₀ x = Passing (indexPasses shape (modelIn shape (bytes memory tags states words))) (shape .sets) x
 
-columns-pass-requires : tie.Need-columns-pass-requires
-columns-pass-requires c κs = ready _ _ (c .before .refusal .ensures) (c .if1 .left)
+abbrev μ-loop : tie.MeasureT-loop
+μ-loop shape memory tags states words sets x₀ x = sets - x
 
-returns-2 : tie.Need-returns-2
-returns-2 c = accepted _ _ (c .before .before .refusal .ensures) (c .before .if1 .left) (c .columns-pass .ensures)
+loop-holds : tie.Need-loop-holds Inv-loop μ-loop
+loop-holds c = passing-none _ _
+
+index-passes-requires : tie.Need-index-passes-requires Inv-loop μ-loop
+index-passes-requires c κs = (c .before .before .before .before .before .before .pre, c .loop-test .taken)
+
+returns : tie.Need-returns Inv-loop μ-loop
+unfolding columnsPass
+returns c = passing-fails _ (c .before .before .before .loop .inv) (c .before .before .loop-test .taken) (c .before .index-passes .ensures) (c .if1 .taken) ∙ columns-say _ _ (c .before .before .before .before .before .before .before .before .pre)
+
+add-x : tie.Need-add-x Inv-loop μ-loop
+add-x c = omega (arith, c .before .before .loop-test .taken)
+
+loop-less : tie.Need-loop-less Inv-loop μ-loop
+loop-less c = omega (arith, c .before .before .loop-test .taken)
+
+loop-again : tie.Need-loop-again Inv-loop μ-loop
+loop-again c = passing-more _ (c .before .before .before .loop .inv) (c .before .before .loop-test .taken) (c .before .index-passes .ensures) (c .if1 .left)
+
+returns-2 : tie.Need-returns-2 Inv-loop μ-loop
+unfolding columnsPass
+returns-2 c = passing-done _ (c .before .loop .inv) (c .loop-test .left) ∙ columns-say _ _ (c .before .before .before .before .before .before .pre)
 
 pub audit-tables-spec : {M : Type 1} → statement M
 audit-tables-spec =
     tie.close
     (tie.spec
-    (λ c κs. search needs)
+    Inv-loop
+    μ-loop
+    loop-holds
+    index-passes-requires
     returns
-    columns-pass-requires
+    add-x
+    loop-less
+    loop-again
     returns-2)

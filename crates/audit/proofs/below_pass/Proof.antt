@@ -1,30 +1,30 @@
 -- The loop goes on while the ports' entries go with e. Assumes nothing.
-use Prim.Native.Nat.{_-_}
+use Prim.Native.Nat.{_-_, _+_, _*_}
 use native.Mathlib.Omega.{arith}
-use Rattle.ports.specs.Line.{tables}
-use Rattle.audit.specs.Entries.{heldBy, pairPasses, belowPass}
-use Rattle.audit.proofs.Places.{in-tables}
+use Rattle.ports.specs.Bytes.{tablesIn}
+use Rattle.audit.specs.Entries.{heldAt, pairPasses, belowPass}
 use Rattle.audit.proofs.Passing.{Passing, passing-none, passing-fails, passing-more, passing-done}
+use Rattle.audit.proofs.Places.{in-column}
 use Rattle.audit.proofs.below_pass.Statement.{statement}
 use Rattle.audit.proofs.below_pass.Tie as tie
 
 abbrev Inv-loop : tie.InvT-loop
-Inv-loop tags states «data» x p e sets q₀ q = Passing (λ q. pairPasses e (heldBy sets (tables tags states «data») x q)) p q
+Inv-loop shape tags states words x p e sets q₀ q = Passing (λ q. pairPasses e (heldAt (tablesIn shape tags states words) (q * sets + x))) p q
 
 abbrev μ-loop : tie.MeasureT-loop
-μ-loop tags states «data» x p e sets q₀ q = p - q
+μ-loop shape tags states words x p e sets q₀ q = p - q
 
 loop-holds : tie.Need-loop-holds Inv-loop μ-loop
 loop-holds c = passing-none _ _
 
 mul-k : tie.Need-mul-k Inv-loop μ-loop
-mul-k c = omega (arith, in-tables (c .before .before .before .before .before .pre .0) (c .before .loop .q) (omega (arith, c .loop-test .taken, c .before .before .before .before .before .pre .1)) .in-words, c .before .before .before .before .before .good)
+mul-k c = omega (arith, in-column (c .loop-test .taken) (c .before .before .before .before .before .pre .1), c .before .before .before .before .before .pre .0 .states-fit)
 
 add-k : tie.Need-add-k Inv-loop μ-loop
-add-k c = omega (arith, in-tables (c .before .before .before .before .before .pre .0) (c .before .loop .q) (omega (arith, c .loop-test .taken, c .before .before .before .before .before .pre .1)) .in-words, c .before .before .before .before .before .good)
+add-k c = omega (arith, in-column (c .loop-test .taken) (c .before .before .before .before .before .pre .1), c .before .before .before .before .before .pre .0 .states-fit)
 
 pair-passes-requires : tie.Need-pair-passes-requires Inv-loop μ-loop
-pair-passes-requires c κs = in-tables (c .before .before .before .before .before .pre .0) (c .before .loop .q) (omega (arith, c .loop-test .taken, c .before .before .before .before .before .pre .1))
+pair-passes-requires c κs = (c .before .before .before .before .before .pre .0, in-column (c .loop-test .taken) (c .before .before .before .before .before .pre .1))
 
 returns : tie.Need-returns Inv-loop μ-loop
 unfolding belowPass

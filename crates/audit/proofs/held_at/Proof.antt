@@ -1,21 +1,18 @@
--- `held_at` is `heldAt`: one read of each table, and the byte's class. Assumes nothing.
+-- One read of each table, and the byte's class. Assumes nothing.
 use borrow.Author.Needs.{needs}
-use Rattle.audit.specs.Entries.{heldAt}
+use Rattle.audit.proofs.Places.{held-is}
 use Rattle.audit.proofs.held_at.Statement.{statement}
 use Rattle.audit.proofs.held_at.Tie as tie
 
 returns : tie.Need-returns
-unfolding heldAt
-returns c = rw (c .before .class-of .ensures)
+returns c = held-is _ _ _ _ (c .before .before .before .before .before .before .before .pre .1) (c .before .before .before .tag-at .ensures) (c .before .class-of .ensures) (c .word-at .ensures)
 
 pub held-at-spec : {M : Type 1} → statement M
 held-at-spec =
     tie.close
     (tie.spec
-    (λ c. search needs)
-    (λ c. search needs)
-    (λ c. search needs)
     (λ c κs. search needs)
     (λ c. search needs)
-    (λ c. search needs)
+    (λ c κs. search needs)
+    (λ c κs. search needs)
     returns)

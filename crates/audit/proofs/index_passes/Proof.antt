@@ -1,17 +1,17 @@
 -- The loop goes on while the ports' entries pass. Assumes nothing.
 use Prim.Native.Nat.{_-_}
 use native.Mathlib.Omega.{arith}
-use Rattle.model.specs.Tables.{model}
+use Rattle.ports.specs.Bytes.{bytes, modelIn}
 use Rattle.audit.specs.Entries.{entryPasses, indexPasses}
 use Rattle.audit.proofs.Passing.{Passing, passing-none, passing-fails, passing-more, passing-done}
 use Rattle.audit.proofs.index_passes.Statement.{statement}
 use Rattle.audit.proofs.index_passes.Tie as tie
 
 abbrev Inv-loop : tie.InvT-loop
-Inv-loop shape memory tags states «data» x ports p₀ p = Passing (entryPasses shape (model memory tags states «data») x) (shape .ports) p
+Inv-loop shape memory tags states words x ports p₀ p = Passing (entryPasses shape (modelIn shape (bytes memory tags states words)) x) (shape .ports) p
 
 abbrev μ-loop : tie.MeasureT-loop
-μ-loop shape memory tags states «data» x ports p₀ p = ports - p
+μ-loop shape memory tags states words x ports p₀ p = ports - p
 
 loop-holds : tie.Need-loop-holds Inv-loop μ-loop
 loop-holds c = passing-none _ _

@@ -2,30 +2,30 @@
 use Prim.Native.Nat.{_-_, _+_, _*_}
 use lib.Arith.{digits-lt}
 use native.Mathlib.Omega.{arith}
+use Rattle.endian.specs.Little.{numbers}
+use Rattle.model.specs.Shape.{entries}
 use Rattle.audit.specs.Entries.{ownsAt, ownedAt}
 use Rattle.audit.proofs.Passing.{Seeking, seeking-none, seeking-found, seeking-more, seeking-done}
 use Rattle.audit.proofs.owned_at.Statement.{statement}
 use Rattle.audit.proofs.owned_at.Tie as tie
 
 abbrev Inv-loop : tie.InvT-loop
-Inv-loop tags states x tag ports sets port₀ port = Seeking (λ q. ownsAt tags states tag (q * sets + x)) ports port
+Inv-loop shape tags states x tag ports sets port₀ port = Seeking (λ q. ownsAt (numbers 4 (entries shape) tags) states tag (q * sets + x)) ports port
 
 abbrev μ-loop : tie.MeasureT-loop
-μ-loop tags states x tag ports sets port₀ port = ports - port
+μ-loop shape tags states x tag ports sets port₀ port = ports - port
 
 loop-holds : tie.Need-loop-holds Inv-loop μ-loop
 loop-holds c = seeking-none _ _
 
 mul-k : tie.Need-mul-k Inv-loop μ-loop
-mul-k c = omega (arith, digits-lt (c .loop-test .taken) (c .before .before .before .before .pre .1), c .before .before .before .before .pre .0 .0, c .before .before .before .before .good)
+mul-k c = omega (arith, digits-lt (c .loop-test .taken) (c .before .before .before .before .pre .1), c .before .before .before .before .pre .0 .1)
 
 add-k : tie.Need-add-k Inv-loop μ-loop
-add-k c = omega (arith, digits-lt (c .loop-test .taken) (c .before .before .before .before .pre .1), c .before .before .before .before .pre .0 .0, c .before .before .before .before .good)
+add-k c = omega (arith, digits-lt (c .loop-test .taken) (c .before .before .before .before .pre .1), c .before .before .before .before .pre .0 .1)
 
 owns-at-requires : tie.Need-owns-at-requires Inv-loop μ-loop
-owns-at-requires c κs =
-    let l = digits-lt (c .loop-test .taken) (c .before .before .before .before .pre .1) in
-    (omega (arith, l, c .before .before .before .before .pre .0 .0), omega (arith, l, c .before .before .before .before .pre .0 .1))
+owns-at-requires c κs = (c .before .before .before .before .pre .0, digits-lt (c .loop-test .taken) (c .before .before .before .before .pre .1))
 
 returns : tie.Need-returns Inv-loop μ-loop
 unfolding ownedAt

@@ -16,16 +16,16 @@ returns c = step-answered _ _ _ _ (c .before .before .before .before .before .be
 returns-2 : tie.Need-returns-2
 returns-2 c = step-unanswered _ _ _ _ (c .before .before .refusal-by .ensures) (c .before .if1 .taken) (c .if2 .left)
 
-step-bytes-requires : tie.Need-step-bytes-requires
-step-bytes-requires c κs = fitting _ _ _ (sym (c .before .before .before .before .before .refusal-by .ensures) ∙ (c .before .before .before .before .if1 .left))
+step-order-requires : tie.Need-step-order-requires
+step-order-requires c κs = fitting _ _ _ (sym (c .before .before .before .before .before .refusal-by .ensures) ∙ (c .before .before .before .before .if1 .left))
 
 put-answer-requires-2 : tie.Need-put-answer-requires-2
 put-answer-requires-2 c κs = eqb-true _ _ (out-fits _ _ _ _ _ _ (c .before .before .before .before .before .before .before .before .before .before .before .before .before .before .before .refusal-by .ensures) (c .before .before .before .before .before .before .before .before .before .before .before .before .before .before .if1 .left))
 
 returns-3 : tie.Need-returns-3
 returns-3 c =
-    let k = (c .before .before .before .before .before .before .before .before .before .before .before .before .step-bytes .kept) in
-    step-accepted _ _ _ _ (c .before .before .before .before .before .before .before .before .before .before .before .before .before .before .before .before .before .before .refusal-by .ensures) (c .before .before .before .before .before .before .before .before .before .before .before .before .before .before .before .before .before .if1 .left) (c .before .before .before .before .before .before .before .before .before .before .before .before .step-bytes .ensures) (k .1 .0) (k .1 .1 .0) (k .1 .1 .1 .0) (k .1 .1 .1 .1 .0)
+    let k = (c .before .before .before .before .before .before .before .before .before .before .before .before .step-order .kept) in
+    step-accepted _ _ _ _ (c .before .before .before .before .before .before .before .before .before .before .before .before .before .before .before .before .before .before .refusal-by .ensures) (c .before .before .before .before .before .before .before .before .before .before .before .before .before .before .before .before .before .if1 .left) (c .before .before .before .before .before .before .before .before .before .before .before .before .step-order .ensures) (k .1 .0) (k .1 .1 .0) (k .1 .1 .1 .0) (k .1 .1 .1 .1 .0)
     (λ j. omega (arith, (c .before .before .before .before .before .before .before .before .before .before .slice-known7 .given) j)) (λ j. omega (arith, (c .before .before .before .before .before .before .before .before .slice-known8 .given) j)) (λ j. omega (arith, (c .before .before .before .before .slice-known10 .given) j)) (c .before .before .put-answer2 .ensures)
 
 pub moesi-step-spec : {M : Type 1} → statement M
@@ -37,7 +37,7 @@ moesi-step-spec =
     (λ c. search needs)
     returns
     returns-2
-    step-bytes-requires
+    step-order-requires
     put-answer-requires-2
     (λ c. search needs)
     (λ c. search needs)

@@ -1,7 +1,7 @@
 -- The loop runs order after order. Assumes nothing.
 use Prim.Native.Nat.{_-_}
 use native.Mathlib.Omega.{arith}
-use Rattle.packed_step.specs.Bytes.{bytes}
+use Rattle.ports.specs.Bytes.{bytes}
 use Rattle.replay.proofs.Running.{Running, running-none, running-more, running-done}
 use Rattle.replay.proofs.run_orders.Statement.{statement}
 use Rattle.replay.proofs.run_orders.Tie as tie
@@ -27,8 +27,8 @@ mul-read-eight-2 c = omega (arith, c .before .loop-test .taken, c .before .befor
 read-eight-requires-2 : tie.Need-read-eight-requires-2 Inv-loop μ-loop
 read-eight-requires-2 c κs = omega (arith, c .before .loop-test .taken, c .before .before .before .before .before .before .before .before .before .before .pre .1)
 
-step-bytes-requires : tie.Need-step-bytes-requires Inv-loop μ-loop
-step-bytes-requires c κs = c .before .before .before .before .before .before .before .loop .inv .fits
+step-order-requires : tie.Need-step-order-requires Inv-loop μ-loop
+step-order-requires c κs = c .before .before .before .before .before .before .before .loop .inv .fits
 
 mul-put-answer : tie.Need-mul-put-answer Inv-loop μ-loop
 mul-put-answer c = omega (arith, c .before .before .before .before .before .before .before .before .before .before .before .before .before .before .before .before .loop-test .taken, c .before .before .before .before .before .before .before .before .before .before .before .before .before .before .before .before .before .before .before .before .before .before .before .before .before .pre .1, c .before .before .before .before .before .before .before .before .before .before .before .before .before .before .before .before .before .before .before .before .before .before .before .before .before .good)
@@ -43,8 +43,8 @@ loop-less : tie.Need-loop-less Inv-loop μ-loop
 loop-less c = omega (arith, c .before .before .before .before .before .before .before .before .before .before .before .before .before .before .before .before .before .before .before .loop-test .taken)
 
 loop-again : tie.Need-loop-again Inv-loop μ-loop
-loop-again c = let e = c .before .before .before .before .before .before .before .before .before .before .before .before .step-bytes .kept in
-    running-more _ _ _ _ (c .before .before .before .before .before .before .before .before .before .before .before .before .before .before .before .before .before .before .before .before .loop .inv) (c .before .before .before .before .before .before .before .before .before .before .before .before .before .before .before .before .before .before .before .loop-test .taken) (c .before .before .before .before .before .before .before .before .before .before .before .before .before .before .before .before .before .before .read-eight .ensures) (c .before .before .before .before .before .before .before .before .before .before .before .before .before .before .before .before .before .read-eight2 .ensures) _ (c .before .before .before .before .before .before .before .before .before .before .before .before .step-bytes .ensures) (e .1 .0) (e .1 .1 .0) (e .1 .1 .1 .0) (e .1 .1 .1 .1 .0) (c .before .before .put-answer .ensures)
+loop-again c = let e = c .before .before .before .before .before .before .before .before .before .before .before .before .step-order .kept in
+    running-more _ _ _ _ (c .before .before .before .before .before .before .before .before .before .before .before .before .before .before .before .before .before .before .before .before .loop .inv) (c .before .before .before .before .before .before .before .before .before .before .before .before .before .before .before .before .before .before .before .loop-test .taken) (c .before .before .before .before .before .before .before .before .before .before .before .before .before .before .before .before .before .before .read-eight .ensures) (c .before .before .before .before .before .before .before .before .before .before .before .before .before .before .before .before .before .read-eight2 .ensures) _ (c .before .before .before .before .before .before .before .before .before .before .before .before .step-order .ensures) (e .1 .0) (e .1 .1 .0) (e .1 .1 .1 .0) (e .1 .1 .1 .1 .0) (c .before .before .put-answer .ensures)
 
 same-length : tie.Need-same-length Inv-loop μ-loop
 same-length c = omega (arith, c .before .loop .inv .fits .memory-fits, c .before .before .before .before .before .before .before .before .before .pre .0 .memory-fits)
@@ -75,7 +75,7 @@ run-orders-spec =
     read-eight-requires
     mul-read-eight-2
     read-eight-requires-2
-    step-bytes-requires
+    step-order-requires
     mul-put-answer
     put-answer-requires
     add-k

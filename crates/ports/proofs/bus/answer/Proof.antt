@@ -1,29 +1,28 @@
--- `answer` is `answerAt`, at the index of the part. Assumes nothing.
+-- A holder answers, from the part that starts at its port. Assumes nothing.
 use borrow.Author.Needs.{needs}
-use Rattle.ports.proofs.Answers.{answer-is}
+use mathlib.Core.Path.{refl}
+use Rattle.ports.specs.Bus.{statesAnswered, wordsAnswered}
 use Rattle.ports.proofs.bus.answer.Statement.{statement}
 use Rattle.ports.proofs.bus.answer.Tie as tie
 
 returns : tie.Need-returns
-returns c = answer-is _ _ _ _ _ (c .before .before .before .before .before .byte-state .ensures) (c .before .before .before .before .is-valid .ensures) (c .before .before .before .nibble .ensures .0) (c .before .before .choose-byte .ensures) (c .choose-word .ensures)
+unfolding statesAnswered wordsAnswered
+returns c = (refl, (rw (c .before .before .before .before .before .nibble .ensures .0), rw (c .before .before .before .before .if1 .taken, c .before .before .put-word .ensures)))
+
+returns-2 : tie.Need-returns-2
+unfolding statesAnswered wordsAnswered
+returns-2 c = (refl, (rw (c .before .nibble .ensures .0), rw (c .if1 .left)))
 
 pub answer-spec : {M : Type 1} → statement M
 answer-spec =
     tie.close
     (tie.spec
     (λ c. search needs)
-    (λ c. search needs)
-    (λ c. search needs)
-    (λ c. search needs)
-    (λ c. search needs)
-    (λ c κs. search needs)
-    (λ c κs. search needs)
-    (λ c κs. search needs)
     (λ c κs. search needs)
     (λ c. search needs)
     (λ c κs. search needs)
     (λ c. search needs)
     (λ c. search needs)
+    returns
     (λ c. search needs)
-    (λ c. search needs)
-    returns)
+    returns-2)

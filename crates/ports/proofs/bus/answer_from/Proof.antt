@@ -1,14 +1,16 @@
 -- An answer from a port's own part is its answer in the whole tables. Assumes nothing.
 use borrow.Author.Needs.{needs}
-use Rattle.ports.proofs.Answers.{part-answer}
+use Rattle.ports.proofs.Answers.{part-holder, tags-part, states-part, words-part}
 use Rattle.ports.proofs.bus.answer_from.Statement.{statement}
 use Rattle.ports.proofs.bus.answer_from.Tie as tie
 
-returns : tie.Need-returns
-returns c = part-answer _ _ _ _ _ _ (c .before .before .before .before .before .before .before .before .before .before .if1 .taken) (c .before .before .before .before .before .before .before .before .before .before .before .before .before .before .pre) (c .before .before .before .before .before .before .answer .ensures)
+answer-requires : tie.Need-answer-requires
+answer-requires c κs = (search needs, part-holder (c .before .before .before .before .before .before .args .c) (c .before .before .before .before .before .before .args .w) _ (c .before .before .before .before .before .before .args .from) _ (c .before .before .before .before .before .before .pre .0) (c .before .before .before .before .before .before .pre .1))
 
-returns-2 : tie.Need-returns-2
-returns-2 c = rw (c .if1 .left)
+returns : tie.Need-returns
+returns c = let e = c .before .before .before .before .before .before .answer .ensures in
+    let a = c .before .before .before .before .before .before .before .before .before .before .before .before .before .args in
+    (tags-part (a .c) (a .w) _ (a .from) _ (c .before .before .before .before .before .before .before .before .before .before .before .before .before .pre .0) (c .before .before .before .before .before .before .before .before .before .before .before .before .before .pre .1) (e .0), (states-part (a .c) (a .w) _ (a .from) _ (c .before .before .before .before .before .before .before .before .before .before .before .before .before .pre .0) (c .before .before .before .before .before .before .before .before .before .before .before .before .before .pre .1) (e .1 .0), words-part (a .c) (a .w) _ (a .from) _ (c .before .before .before .before .before .before .before .before .before .before .before .before .before .pre .0) (c .before .before .before .before .before .before .before .before .before .before .before .before .before .pre .1) (e .1 .1)))
 
 pub answer-from-spec : {M : Type 1} → statement M
 answer-from-spec =
@@ -25,9 +27,8 @@ answer-from-spec =
     (λ c. search needs)
     (λ c. search needs)
     (λ c. search needs)
-    (λ c κs. search needs)
+    answer-requires
     (λ c. search needs)
     (λ c. search needs)
     (λ c. search needs)
-    returns
-    returns-2)
+    returns)

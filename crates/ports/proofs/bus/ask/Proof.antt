@@ -1,23 +1,19 @@
--- The command is sent to all, or to nobody. Assumes nothing.
+-- The command is sent to all of the mask; or there is nobody to hear it, or nothing to say. Assumes nothing.
 use borrow.Author.Needs.{needs}
-use Rattle.ports.proofs.Answers.{asked-all, asked-none}
+use Rattle.ports.proofs.Answers.{unasked}
 use Rattle.ports.proofs.bus.ask.Statement.{statement}
 use Rattle.ports.proofs.bus.ask.Tie as tie
 
-returns : tie.Need-returns
-returns c = asked-all _ _ _ _ _ _ (c .before .before .before .before .before .before .before .before .before .before .before .if1 .taken) (c .before .before .before .before .before .before .before .command-of .ensures) (c .before .before .before .before .before .before .broadcast .ensures)
-
 returns-2 : tie.Need-returns-2
-returns-2 c = asked-none _ _ _ _ _ _ (c .if1 .left)
+returns-2 c = unasked (c .before .before .before .before .pre .1 .0) _ _ _ (c .before .before .before .before .pre .0) (c .before .before .before .before .pre .1 .1 .0) (c .before .before .before .before .pre .1 .1 .1 .0) (c .if1 .left)
 
 pub ask-spec : {M : Type 1} → statement M
 ask-spec =
     tie.close
     (tie.spec
     (λ c κs. search needs)
-    (λ c κs. search needs)
     (λ c. search needs)
     (λ c. search needs)
     (λ c. search needs)
-    returns
+    (λ c. search needs)
     returns-2)

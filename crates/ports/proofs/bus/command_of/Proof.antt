@@ -6,7 +6,7 @@ use Rattle.ports.proofs.bus.command_of.Tie as tie
 
 returns : tie.Need-returns
 unfolding commandOf
-returns c = rw (c .hands-word .ensures, c .before .snoop-row .ensures)
+returns c = rw (c .before .snoop-row .ensures, c .hands-word .ensures)
 
 pub command-of-spec : {M : Type 1} → statement M
 command-of-spec =

@@ -1,41 +1,48 @@
--- The loop keeps the survey of the ports passed. Assumes nothing.
-use borrow.Author.Needs.{needs}
+-- The loop keeps the lanes of the ports passed, from the last one down. Assumes nothing.
 use Prim.Native.Nat.{_-_}
+use mathlib.Core.Path.{refl}
 use native.Mathlib.Omega.{arith}
-use Rattle.ports.proofs.Places.{in-one, in-two}
-use Rattle.ports.proofs.Surveys.{Surveying, surveying-none, surveying-more, surveying-done}
+use Rattle.ports.specs.Bytes.{tablesIn}
+use Rattle.ports.proofs.Places.{there, small}
+use Rattle.ports.proofs.Surveys.{Surveyed, surveyed-none, surveyed-more, surveyed-fits, surveyed-done, look-fits}
 use Rattle.ports.proofs.survey.survey_ports.Statement.{statement}
 use Rattle.ports.proofs.survey.survey_ports.Tie as tie
 
 abbrev Inv-loop : tie.InvT-loop
-Inv-loop tags states line i ports sets s₀ p₀ s p = Surveying line tags states i s p
+Inv-loop tags states words line sets index sum₀ p₀ sum p = Surveyed (line .shape) (tablesIn (line .shape) tags states words) (line .number) sum p
 
 abbrev μ-loop : tie.MeasureT-loop
-μ-loop tags states line i ports sets s₀ p₀ s p = ports - p
+μ-loop tags states words line sets index sum₀ p₀ sum p = p
 
 loop-holds : tie.Need-loop-holds Inv-loop μ-loop
-loop-holds c = surveying-none _ _ _ _
+loop-holds c = surveyed-none _ (c .before .before .before .pre .1) _ _ _
+
+sub-p : tie.Need-sub-p Inv-loop μ-loop
+sub-p c = omega (arith, c .loop-test .taken)
 
 mul-k : tie.Need-mul-k Inv-loop μ-loop
-mul-k c = omega (arith, in-one (c .before .before .before .before .pre) (c .before .loop .p) (c .loop-test .taken))
+mul-k c = omega (arith, small (c .before .before .before .before .before .pre .1) (c .before .loop .p - 1) (omega (arith, c .loop-test .taken, c .before .loop .inv .all)))
 
 add-k : tie.Need-add-k Inv-loop μ-loop
-add-k c = omega (arith, in-one (c .before .before .before .before .before .pre) (c .before .before .loop .p) (c .before .loop-test .taken))
+add-k c = omega (arith, small (c .before .before .before .before .before .pre .1) (c .before .loop .p - 1) (omega (arith, c .loop-test .taken, c .before .loop .inv .all)))
 
-look-entry-requires : tie.Need-look-entry-requires Inv-loop μ-loop
-look-entry-requires c κs = (in-one (c .before .before .before .before .before .pre) (c .before .before .loop .p) (c .before .loop-test .taken), in-two (c .before .before .before .before .before .pre) (c .before .before .loop .p) (c .before .loop-test .taken))
+entry-lanes-requires : tie.Need-entry-lanes-requires Inv-loop μ-loop
+entry-lanes-requires c κs = (c .before .before .before .before .before .pre .0, (c .before .before .before .before .before .pre .1, there (c .before .before .before .before .before .pre .1) (c .before .loop .p - 1) (omega (arith, c .loop-test .taken, c .before .loop .inv .all))))
 
-add-p : tie.Need-add-p Inv-loop μ-loop
-add-p c = omega (arith, c .before .before .before .loop-test .taken)
+mul-sum : tie.Need-mul-sum Inv-loop μ-loop
+mul-sum c = omega (arith, surveyed-fits _ (c .before .before .before .before .before .before .pre .1) _ _ _ (c .before .before .loop .inv))
+
+add-sum : tie.Need-add-sum Inv-loop μ-loop
+add-sum c = omega (arith, surveyed-fits _ (c .before .before .before .before .before .before .pre .1) _ _ _ (c .before .before .loop .inv), look-fits _ _ _ (c .entry-lanes .ensures))
 
 loop-less : tie.Need-loop-less Inv-loop μ-loop
-loop-less c = omega (arith, c .before .before .before .loop-test .taken)
+loop-less c = omega (arith, c .before .loop-test .taken)
 
 loop-again : tie.Need-loop-again Inv-loop μ-loop
-loop-again c = surveying-more _ _ _ _ (c .before .before .before .before .loop .inv) (c .before .before .before .loop-test .taken) (c .before .look-entry .ensures) (c .note .ensures)
+loop-again c = surveyed-more _ (c .before .before .before .before .before .before .pre .1) _ _ _ (c .before .before .loop .inv) (omega (arith, c .before .loop-test .taken)) (c .entry-lanes .ensures) refl
 
 returns : tie.Need-returns Inv-loop μ-loop
-returns c = surveying-done (c .before .loop .inv) (c .loop-test .left)
+returns c = surveyed-done _ (c .before .before .before .before .before .pre .1) _ _ _ (c .before .loop .inv) (c .loop-test .left)
 
 pub survey-ports-spec : {M : Type 1} → statement M
 survey-ports-spec =
@@ -44,11 +51,12 @@ survey-ports-spec =
     Inv-loop
     μ-loop
     loop-holds
+    sub-p
     mul-k
     add-k
-    look-entry-requires
-    (λ c κs. search needs)
-    add-p
+    entry-lanes-requires
+    mul-sum
+    add-sum
     loop-less
     loop-again
     returns)

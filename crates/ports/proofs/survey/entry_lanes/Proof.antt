@@ -1,0 +1,20 @@
+-- What an entry says, read from bytes. Assumes nothing.
+use borrow.Author.Needs.{needs}
+use Rattle.ports.proofs.Places.{tag-read, tag-below}
+use Rattle.ports.proofs.survey.entry_lanes.Statement.{statement}
+use Rattle.ports.proofs.survey.entry_lanes.Tie as tie
+
+lanes-at-requires : tie.Need-lanes-at-requires
+lanes-at-requires c κs = tag-below (c .before .before .before .before .before .pre .1 .0)
+
+returns : tie.Need-returns
+returns c = rw (c .lanes-at .ensures, ← tag-read (c .before .before .before .before .before .before .pre .0) (c .before .before .before .before .before .before .pre .1 .1) (c .before .before .tag-at .ensures))
+
+pub entry-lanes-spec : {M : Type 1} → statement M
+entry-lanes-spec =
+    tie.close
+    (tie.spec
+    (λ c κs. search needs)
+    (λ c. search needs)
+    lanes-at-requires
+    returns)

@@ -1,0 +1,40 @@
+-- What an entry says, from the row of its tag. Assumes nothing.
+use borrow.Author.Needs.{needs}
+use native.Mathlib.Omega.{arith}
+use Rattle.ports.proofs.Surveys.{lanes-are, row-fits, shift-below}
+use Rattle.ports.proofs.survey.lanes_at.Statement.{statement}
+use Rattle.ports.proofs.survey.lanes_at.Tie as tie
+
+mul-near : tie.Need-mul-near
+mul-near c = omega (arith, row-fits (c .state-row .ensures))
+
+mul-far : tie.Need-mul-far
+mul-far c = omega (arith, row-fits (c .state-row .ensures))
+
+add-far : tie.Need-add-far
+add-far c = omega (arith, row-fits (c .state-row .ensures))
+
+shr-x : tie.Need-shr-x
+shr-x c = omega (arith, shift-below (c .before .before .before .before .before .before .args .b) (c .choose-byte .ensures))
+
+returns : tie.Need-returns
+returns c = lanes-are _ _ (c .before .before .before .before .before .before .args .b) (c .before .before .before .before .before .before .pre) (c .before .before .before .before .before .state-row .ensures) (c .before .before .before .choose-word .ensures) (c .before .choose-word2 .ensures) (c .choose-byte .ensures)
+
+pub lanes-at-spec : {M : Type 1} → statement M
+lanes-at-spec =
+    tie.close
+    (tie.spec
+    (λ c κs. search needs)
+    mul-near
+    mul-far
+    add-far
+    (λ c κs. search needs)
+    (λ c κs. search needs)
+    (λ c κs. search needs)
+    (λ c. search needs)
+    shr-x
+    (λ c. search needs)
+    (λ c. search needs)
+    (λ c. search needs)
+    (λ c. search needs)
+    returns)
