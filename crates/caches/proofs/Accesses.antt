@@ -1,33 +1,32 @@
 -- An access as the code makes it is the model's. Assumes nothing.
-use Prim.Native.Nat.{ℕ, zero, _+_, _*_, _/_, _%_, _^_, _<_}
+use Prim.Native.Nat.{ℕ, zero, _+_, _*_, _<_}
 use mathlib.Core.Path.{_≡_, refl, ap, sym, _∙_}
 use mathlib.Core.Bool.{Bool, true, false, cond, _&&_, not}
 use mathlib.Core.List.{List}
-use lib.ListN.{getD, length}
+use lib.ListN.{getD}
 use lib.Dec.{eqb}
-use native.Mathlib.Omega.{arith}
 use borrow.Author.Tests.{not-true, not-false}
 use Rattle.endian.specs.Little.{numbers}
 use Rattle.words.specs.declared.access.Access.{Access}
 use Rattle.words.specs.declared.access.Effect.{Effect}
 use Rattle.words.specs.Bools.{bit}
 use Rattle.words.specs.Access.{effectAt}
-use Rattle.words.proofs.Bools.{Is, and-r, by-bool}
+use Rattle.words.proofs.Bools.{and-r, by-bool}
 use Rattle.protocol.specs.declared.state.Mode.{Mode}
 use Rattle.protocol.specs.declared.state.Byte.{Byte}
 use Rattle.protocol.specs.declared.rules.Rule.{Rule}
 use Rattle.protocol.specs.declared.rules.Coded.{Coded}
-use Rattle.protocol.specs.State.{code, stateOf, orInvalid, isState, valid, owner}
+use Rattle.protocol.specs.State.{stateOf, orInvalid, isState, owner}
 use Rattle.protocol.specs.Rules.{rule}
-use Rattle.protocol.specs.Coded.{busNumber, busAt, coded}
+use Rattle.protocol.specs.Coded.{busAt, coded}
 use Rattle.protocol.proofs.States.{not-valid}
 use Rattle.protocol.proofs.Rows.{bus-below, bus-at}
 use Rattle.model.specs.declared.shape.Shape.{Shape}
 use Rattle.model.specs.declared.answer.Answer.{Answer}
-use Rattle.model.specs.Shape.{entries, indexOf, tagOf, entryOf}
+use Rattle.model.specs.Shape.{entries, entryOf}
 use Rattle.model.specs.Below.{lowest, atOr}
 use Rattle.model.specs.Tables.{Model, model, stateAt, homeAt, sound, seen, wordAt, memoryAt, holds, owns, dirty, columnSound}
-use Rattle.model.specs.Step.{Result, result, accepted, refused, store, shared, wordFound, fetches, evictsOwner, byteAfter, wordAfter, applied, accessRule, accessed, ifSound}
+use Rattle.model.specs.Step.{result, accepted, store, shared, wordFound, fetches, evictsOwner, byteAfter, wordAfter, applied, accessRule, accessed}
 use Rattle.model.proofs.Entries.{seen-tag, seen-here, home-is}
 use Rattle.ports.specs.declared.line.Line.{Line}
 use Rattle.ports.specs.declared.entry.Entry.{Entry}

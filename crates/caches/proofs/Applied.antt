@@ -1,13 +1,12 @@
 -- The answers on the bus, and then the own entry: the tables after a rule, as the model has them. Assumes nothing.
-use Prim.Native.Nat.{ℕ, zero, _+_, _*_, _^_, _<_}
-use mathlib.Core.Path.{_≡_, refl, ap, sym, _∙_}
+use Prim.Native.Nat.{ℕ, zero, _*_, _^_, _<_}
+use mathlib.Core.Path.{_≡_, refl, ap}
 use mathlib.Core.Logic.{_≢_}
-use mathlib.Core.Bool.{Bool, true, false, cond, _&&_, _||_, not}
-use mathlib.Core.List.{List, []}
+use mathlib.Core.Bool.{Bool, true}
+use mathlib.Core.List.{List}
 use native.Mathlib.Omega.{arith}
 use lib.ListN.{getD, set, length}
 use lib.Seq.{sets}
-use lib.Dec.{eqb}
 use borrow.Author.Tests.{eq-eqb, ne-eqb, ltb-true}
 use Rattle.endian.specs.Little.{numbers, bytesOf}
 use Rattle.endian.proofs.Little.{set-numbers}
@@ -17,11 +16,11 @@ use Rattle.protocol.specs.State.{code, stateOf, isState, valid, owner}
 use Rattle.protocol.proofs.States.{owner-valid}
 use Rattle.model.specs.declared.shape.Shape.{Shape}
 use Rattle.model.specs.Shape.{tagOf, entryOf}
-use Rattle.model.specs.Tables.{Model, model, stateAt, homeAt, sound, wordAt, columnSound}
+use Rattle.model.specs.Tables.{Model, model, stateAt, homeAt, sound, columnSound}
 use Rattle.model.specs.Step.{putBelow, store, byteAfter, wordAfter}
 use Rattle.model.proofs.Below.{below-all}
 use Rattle.model.proofs.Entries.{entry-inj}
-use Rattle.ports.specs.Bytes.{Bytes, bytes, modelIn, tablesIn}
+use Rattle.ports.specs.Bytes.{Bytes, modelIn, tablesIn}
 use Rattle.ports.specs.Entry.{putAt}
 use Rattle.ports.specs.Bus.{byteAnswered, wordAnswered, answered}
 use Rattle.ports.proofs.Bytes.{model-eq}

@@ -1,21 +1,21 @@
 -- A flush as the code makes it is the model's. Assumes nothing.
 use Prim.Native.Nat.{ℕ, zero, _+_, _*_, _<_}
 use mathlib.Core.Path.{_≡_, refl, ap, sym, _∙_}
-use mathlib.Core.Bool.{Bool, true, false, cond, _&&_, not}
+use mathlib.Core.Bool.{Bool, false, cond, not}
 use mathlib.Core.List.{List}
-use lib.ListN.{getD, set}
+use lib.ListN.{set}
 use lib.Seq.{set-getD}
 use borrow.Author.Tests.{not-true}
 use Rattle.endian.specs.Little.{numbers}
 use Rattle.words.specs.Bools.{bit}
 use Rattle.words.proofs.Bools.{Is, by-bool, contra}
 use Rattle.protocol.specs.declared.rules.Rule.{Rule}
-use Rattle.protocol.specs.State.{code, valid, owner}
+use Rattle.protocol.specs.State.{code}
 use Rattle.protocol.specs.Rules.{flushRule}
 use Rattle.protocol.proofs.States.{owner-valid}
-use Rattle.protocol.proofs.Kept.{flush-own, flush-bus, flush-stores}
+use Rattle.protocol.proofs.Kept.{flush-own, flush-bus}
 use Rattle.model.specs.declared.shape.Shape.{Shape}
-use Rattle.model.specs.Shape.{entries, tagOf, entryOf}
+use Rattle.model.specs.Shape.{entryOf}
 use Rattle.model.specs.Tables.{Model, model, seen, wordAt, holds, owns}
 use Rattle.model.specs.Step.{result, accepted, store, evictsOwner, byteAfter, wordAfter, applied, flushed}
 use Rattle.model.proofs.Entries.{seen-tag}

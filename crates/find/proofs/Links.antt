@@ -1,6 +1,6 @@
 -- Line a's entries in tables of words: their numbers, and that they are there. Assumes nothing.
 use Prim.Native.Nat.{ℕ, _+_, _*_, _<_}
-use mathlib.Core.Path.{_≡_, refl, sym, _∙_}
+use mathlib.Core.Path.{_≡_, sym, _∙_}
 use mathlib.Core.Bool.{true}
 use mathlib.Core.List.{List}
 use lib.ListN.{length}
@@ -8,7 +8,7 @@ use native.Mathlib.Omega.{arith}
 use Rattle.model.specs.declared.shape.Shape.{Shape}
 use Rattle.model.specs.declared.shape.Place.{Place}
 use Rattle.model.specs.Shape.{inRange, entries, refusalOf, entryOf, placeOf}
-use Rattle.model.specs.Tables.{Model, model, lentRefusal}
+use Rattle.model.specs.Tables.{model, lentRefusal}
 use Rattle.model.proofs.Bounds.{bounded}
 use Rattle.model.proofs.Entries.{entry-lt}
 use Rattle.model.proofs.Lent.{Lent, lent-facts, some-sets}

@@ -1,28 +1,27 @@
 -- The bytes of a host against the model that they hold. Assumes nothing.
-use Prim.Native.Nat.{ℕ, zero, suc, _+_, _*_, _^_, _<_, _≤_}
+use Prim.Native.Nat.{ℕ, zero, suc, _+_, _*_, _^_, _<_}
 use mathlib.Core.Path.{_≡_, refl, sym, ap, _∙_}
 use mathlib.Core.Logic.{_≢_}
 use mathlib.Core.Bool.{Bool, true, false, cond, _&&_}
 use mathlib.Core.List.{List, [], _∷_}
 use native.Mathlib.Omega.{arith}
-use native.Mathlib.Nat.{mod-lt, mul-zero, mul-suc, add-comm}
+use native.Mathlib.Nat.{mul-zero, mul-suc, add-comm}
 use lib.Dec.{eqb}
 use lib.ListN.{getD, set, length, replicate, replicate-append-replicate}
 use lib.Seq.{sets, length-sets}
 use borrow.Author.Tests.{eq-eqb, ne-eqb, eqb-true}
 use Rattle.words.proofs.Bools.{Is, and-l, and-r, by-cond}
 use Rattle.endian.specs.Little.{numbers, bytesOf, encoded}
-use Rattle.endian.proofs.Little.{get-numbers, length-numbers, set-numbers, same-bytes}
+use Rattle.endian.proofs.Little.{set-numbers, same-bytes}
 use Rattle.model.specs.declared.shape.Shape.{Shape}
 use Rattle.model.specs.declared.answer.Answer.{Answer}
 use Rattle.model.specs.Shape.{inRange, entries}
 use Rattle.model.specs.Order.{Order}
-use Rattle.model.specs.Tables.{Model, lentRefusal, memoryAt}
-use Rattle.model.specs.Step.{result, refused, store, step}
+use Rattle.model.specs.Tables.{lentRefusal}
+use Rattle.model.specs.Step.{result, refused, step}
 use Rattle.model.specs.Fresh.{fresh, zeroed}
 use Rattle.model.specs.Audit.{audit}
 use Rattle.words.specs.Bools.{bit}
-use Rattle.model.proofs.Lent.{facts-lent, some-sets}
 use Rattle.ports.specs.Bytes.{Bytes, bytes, modelIn, Fitting}
 use Rattle.ports.proofs.Bytes.{lent, refitted}
 use Rattle.moesi.specs.Host.{inBytes, bytesFit, refusalBy, hostRefusal, answerBytes, hosted, hostStep, hostFresh, hostAudit}

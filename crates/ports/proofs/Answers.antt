@@ -14,11 +14,11 @@ use lib.Count.{trailingZeros}
 use borrow.Author.Tests.{not-true, eqb-true}
 use borrow.Rule.Slice.PartMut.{midOf, postOf, putMid, put-same, post-is, set-mid-at}
 use borrow.Rule.Slice.PartAt.{part-to-end}
-use Rattle.words.proofs.Bools.{Is, and-l, and-r, by-bool, not-is}
+use Rattle.words.proofs.Bools.{Is, and-r, by-bool, not-is}
 use Rattle.protocol.specs.declared.rules.Bus.{Bus}
 use Rattle.protocol.specs.declared.rules.Bus.the-variants.{Quiet}
-use Rattle.protocol.specs.State.{code, stateOf, orInvalid, isState, valid}
-use Rattle.protocol.specs.Rules.{snooped, updates}
+use Rattle.protocol.specs.State.{stateOf, orInvalid}
+use Rattle.protocol.specs.Rules.{updates}
 use Rattle.protocol.specs.Coded.{busAt, nibbleAt, snoopRow}
 use Rattle.protocol.proofs.States.{code-stateOf}
 use Rattle.protocol.proofs.Rows.{snooped-is}
@@ -27,7 +27,7 @@ use Rattle.endian.specs.Little.{number, numbers, bytesOf}
 use Rattle.endian.proofs.Little.{get-numbers, set-numbers}
 use Rattle.model.specs.declared.shape.Shape.{Shape}
 use Rattle.model.specs.Shape.{entries, tagOf, entryOf}
-use Rattle.model.specs.Tables.{Model, model, seen, stateAt, wordAt, holds}
+use Rattle.model.specs.Tables.{Model, seen, wordAt, holds}
 use Rattle.model.specs.Step.{putBelow}
 use Rattle.model.proofs.Entries.{putBelow-other, entry-lt, entry-inj, seen-tag, seen-here}
 use Rattle.ports.specs.declared.line.Line.{Line}

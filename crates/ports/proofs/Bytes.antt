@@ -1,14 +1,13 @@
 -- Lent bytes against the model that they hold. Assumes nothing.
 use Prim.Native.Nat.{ℕ, _+_, _*_, _<_, _≤_}
-use mathlib.Core.Path.{_≡_, refl, sym, _∙_}
+use mathlib.Core.Path.{_≡_, sym, _∙_}
 use mathlib.Core.List.{List}
 use native.Mathlib.Omega.{arith}
 use lib.ListN.{length}
-use Rattle.endian.specs.Little.{numbers}
 use Rattle.endian.proofs.Little.{get-numbers, length-numbers}
 use Rattle.model.specs.declared.shape.Shape.{Shape}
 use Rattle.model.specs.Shape.{entries}
-use Rattle.model.specs.Tables.{Model, model, lentRefusal, memoryAt}
+use Rattle.model.specs.Tables.{model, lentRefusal, memoryAt}
 use Rattle.model.proofs.Lent.{facts-lent}
 use Rattle.ports.specs.Bytes.{Bytes, modelIn, Filled, Fitting}
 use Rattle.ports.specs.Entry.{wordIn}

@@ -1,19 +1,18 @@
 -- Laws of masks of ports: bits, the empty mask, the lowest port in one, one without a port. Assumes nothing.
 use Prim.Native.Nat.{ℕ, zero, suc, _+_, _*_, _-_, _/_, _%_, _^_, _<_, _≤_}
 use mathlib.Core.Path.{_≡_, refl, sym, ap, _∙_, subst}
-use mathlib.Core.Bool.{Bool, true, false, cond, _&&_, not, false≢true}
+use mathlib.Core.Bool.{Bool, true, false, _&&_, not}
 use native.Mathlib.Omega.{arith}
-use native.Mathlib.Nat.{pow-zero, pow-suc, zero-add, add-zero, add-suc, add-comm, div-one}
-use native.Mathlib.Numerals.{add-one}
+use native.Mathlib.Nat.{pow-zero, pow-suc, zero-add, add-zero, div-one}
 use native.Mathlib.Decide.{ℕ-discrete}
 use lib.Dec.{eqb}
 use lib.Pow.{shr-shr, shl-exact}
-use lib.Count.{trailingZeros, under}
+use lib.Count.{trailingZeros}
 use borrow.Author.Tests.{eq-eqb, ne-eqb, not-true}
 use Rattle.words.specs.Bools.{bit}
 use Rattle.words.proofs.Bools.{Is, by-bool, not-both}
 use Rattle.model.specs.Below.{anyBelow, none, number, orElse, lowest, atOr}
-use Rattle.model.proofs.Below.{any-below, none-below, below-none, lowest-cases}
+use Rattle.model.proofs.Below.{any-below, below-none, lowest-cases}
 use Rattle.ports.specs.Masks.{portsFrom}
 
 -- The lowest bit, and the rest.

@@ -6,7 +6,7 @@ use mathlib.Core.List.{List}
 use native.Mathlib.Omega.{arith}
 use native.Mathlib.Nat.{mod-lt, div-add-mod', mul-le-mul}
 use borrow.Author.Tests.{ltb-true, lt-ltb}
-use lib.ListN.{getD, set, length}
+use lib.ListN.{getD, set}
 use lib.Seq.{sets}
 use Rattle.endian.specs.Little.{numbers, bytesOf}
 use Rattle.endian.proofs.Little.{get-numbers, set-numbers}
@@ -14,7 +14,7 @@ use Rattle.model.specs.declared.shape.Shape.{Shape}
 use Rattle.model.specs.declared.shape.Place.{Place}
 use Rattle.model.specs.Shape.{inRange, entries, indexOf, tagOf, entryOf, tagLimit, placeOf}
 use Rattle.model.proofs.Bounds.{bounded, limit-is}
-use Rattle.model.proofs.Entries.{entry-lt, entry-inj}
+use Rattle.model.proofs.Entries.{entry-lt}
 use Rattle.model.proofs.Lent.{some-sets}
 use Rattle.ports.specs.declared.line.Line.{Line}
 use Rattle.ports.specs.declared.entry.Entry.{Entry}

@@ -37,15 +37,7 @@ module _ (at : ℕ → ℕ) (inj : (p q : ℕ) → at p ≡ at q → p ≡ q) wh
             ∙ ap (set (putBelow at g n l) (at n)) (e n (omega arith) d)
       ]
 
-  -- Entry i put alone, where the others stay as they are.
-  put-one : (g : ℕ → ℕ) (n : ℕ) (l : List ℕ) (i : ℕ) → i < n → ((p : ℕ) → p < n → p ≢ i → getD l (at p) 0 ≡ g p) → set l (at i) (g i) ≡ putBelow at g n l
-  put-one g n l i h e =
-      ap (λ (x : List ℕ). set x (at i) (g i)) (sym (put-id (λ p. getD l (at p) 0) n l (λ p q. refl))) ∙ put-last (λ p. getD l (at p) 0) g n l i h e
-
   -- The same for a value x that is what entry i is to have.
   module _ (g : ℕ → ℕ) (n : ℕ) (l : List ℕ) (i x : ℕ) (h : i < n) (ex : x ≡ g i) where
     pub own-last : (f : ℕ → ℕ) → ((p : ℕ) → p < n → p ≢ i → f p ≡ g p) → set (putBelow at f n l) (at i) x ≡ putBelow at g n l
     own-last f e = rw ex (put-last f g n l i h e)
-
-    pub own-alone : ((p : ℕ) → p < n → p ≢ i → getD l (at p) 0 ≡ g p) → set l (at i) x ≡ putBelow at g n l
-    own-alone e = rw ex (put-one g n l i h e)

@@ -1,6 +1,5 @@
 -- One survey; then refusal 8, or the access. Assumes nothing.
 use borrow.Author.Needs.{needs}
-use mathlib.Core.Path.{refl, sym, ap, _∙_}
 use borrow.Author.Tests.{not-false}
 use Rattle.ports.specs.Bytes.{bytes}
 use Rattle.ports.specs.Line.{lineOf}

@@ -4,7 +4,6 @@ use Prim.Native.Nat.{_/_, _%_, _^_}
 use lib.Dec.{eqb}
 use Rattle.ports.specs.Bytes.{tablesIn}
 use native.Mathlib.Omega.{arith}
-use mathlib.Core.Path.{refl}
 use Rattle.ports.proofs.Bytes.{refilled}
 use Rattle.ports.proofs.Places.{few, there, small, sets-small}
 use Rattle.ports.proofs.Masks.{bit-away}

@@ -1,7 +1,7 @@
 -- One survey; then refusal 8, or the flush. Assumes nothing.
 use borrow.Author.Needs.{needs}
 use native.Mathlib.Omega.{arith}
-use mathlib.Core.Path.{refl, sym, ap, _∙_}
+use mathlib.Core.Path.{refl}
 use borrow.Author.Tests.{not-false}
 use Rattle.ports.specs.Bytes.{bytes, tablesIn}
 use Rattle.ports.specs.Line.{lineOf}
