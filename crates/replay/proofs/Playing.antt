@@ -5,7 +5,7 @@ use mathlib.Core.Logic.{_≢_}
 use mathlib.Core.Bool.{Bool, true}
 use mathlib.Core.List.{List, _∷_}
 use native.Mathlib.Omega.{arith}
-use lib.ListN.{length, take, drop, replicate, length-replicate}
+use lib.ListN.{length, take, drop, replicate}
 use borrow.Author.Tests.{eq-eqb, ne-eqb}
 use Rattle.model.specs.declared.shape.Shape.{Shape}
 use Rattle.model.specs.Shape.{entries, inRange}
@@ -55,18 +55,12 @@ module _ (s : Shape) (h : inRange s ≡ true) where
     abbrev pub zeroBytes : Bytes
     zeroBytes = bytes (take (8 * s .lines) (replicate 32768 0)) (take (4 * n) (replicate 2048 0)) (take n (replicate 512 0)) (take (8 * n) (replicate 4096 0))
 
-    prefix : (k m : ℕ) → k ≤ m → length (take k (replicate {A = ℕ} m 0)) ≡ k
-    prefix k m l = rw (zeros k m l) (length-replicate k 0)
-
-    pub start-fits : Fitting s zeroBytes
-    start-fits = record {
+    -- Slices of these lengths fit the shape, whatever they hold.
+    pub start-fits : {m g t d : List ℕ} → length m ≡ 8 * s .lines → length g ≡ 4 * n → length t ≡ n → length d ≡ 8 * n → Fitting s (bytes m g t d)
+    start-fits em eg et ed = record {
       range = h;
-      memory-fits = prefix (8 * s .lines) 32768 memory-few;
-      filled = record {
-        tags-fit = prefix (4 * n) 2048 (omega (arith, entries-few)) ∙ ap (λ (x : ℕ). 4 * x) e;
-        states-fit = prefix n 512 entries-few ∙ e;
-        words-fit = prefix (8 * n) 4096 (omega (arith, entries-few)) ∙ ap (λ (x : ℕ). 8 * x) e;
-      };
+      memory-fits = em;
+      filled = record { tags-fit = eg ∙ ap (λ (x : ℕ). 4 * x) e; states-fit = et ∙ e; words-fit = ed ∙ ap (λ (x : ℕ). 8 * x) e };
     }
 
     pub start-is : modelIn s zeroBytes ≡ start s

@@ -43,7 +43,8 @@ slice-aggregate-run-and-audit-4 : tie.Need-slice-aggregate-run-and-audit-4
 slice-aggregate-run-and-audit-4 c = sym (length-take-le _ _ (omega (arith, entries-few _ (c .before .before .before .before .before .before .before .pre .0) (c .before .before .before .before .before .entries .ensures))))
 
 run-and-audit-requires : tie.Need-run-and-audit-requires
-run-and-audit-requires c κs = (start-fits _ (c .before .before .before .before .before .before .before .before .before .before .pre .0) (c .before .before .before .before .before .before .before .before .entries .ensures), search needs)
+run-and-audit-requires c κs = let n = entries-few _ (c .before .before .before .before .before .before .before .before .before .before .pre .0) (c .before .before .before .before .before .before .before .before .entries .ensures) in
+    (start-fits _ (c .before .before .before .before .before .before .before .before .before .before .pre .0) (c .before .before .before .before .before .before .before .before .entries .ensures) (length-take-le _ _ (memory-few _ (c .before .before .before .before .before .before .before .before .before .before .pre .0))) (length-take-le _ _ (omega (arith, n))) (length-take-le _ _ n) (length-take-le _ _ (omega (arith, n))), search needs)
 
 returns : tie.Need-returns
 returns c = let a = c .before .before .before .before .before .before .before .before .before .before .before .before .before .before .before .args in
