@@ -14,46 +14,67 @@ use Rattle.caches.proofs.flush.flush_line.Statement.{statement}
 use Rattle.caches.proofs.flush.flush_line.Tie as tie
 
 line-of-requires : tie.Need-line-of-requires
-line-of-requires c κs = (c .before .before .before .before .pre .0 .range, c .before .before .before .before .pre .1 .1)
+line-of-requires c κs = let start : tie.Start = search in (start .pre .0 .range, start .pre .1 .1)
 
 survey-ports-requires : tie.Need-survey-ports-requires
 unfolding lineOf
-survey-ports-requires c κs = (rw (c .before .line-of .ensures) (c .before .before .before .before .before .before .pre .0 .filled), placed _ _ (c .before .before .before .before .before .before .pre .0 .range) (c .before .before .before .before .before .before .pre .1 .1) (c .before .line-of .ensures))
+survey-ports-requires c κs =
+    let start : tie.Start = search in
+    (rw (c .before .line-of .ensures) (start .pre .0 .filled), placed _ _ (start .pre .0 .range) (start .pre .1 .1) (c .before .line-of .ensures))
 
 returns : tie.Need-returns
 unfolding lineOf
-returns c = rw (c .refuse .ensures, column-unsound _ (bytes (c .before .before .before .before .before .before .before .before .before .before .args .memory .now) (c .before .before .before .before .before .before .before .before .before .before .args .tags .now) (c .before .before .before .before .before .before .before .before .before .before .args .states .now) (c .before .before .before .before .before .before .before .before .before .before .args .words .now)) _ (rw (c .before .before .before .before .before .line-of .ensures) at (c .before .before .before .survey-ports .ensures)) (c .before .if1 .taken))
+returns c =
+    let after-survey-ports : tie.After-survey-ports = search in let after-line-of : tie.After-line-of = search in let start : tie.Start = search in
+    rw (c .refuse .ensures, column-unsound _ (bytes (start .args .memory .now) (start .args .tags .now) (start .args .states .now)
+        (start .args .words .now)) _ (rw (after-line-of .line-of .ensures) at (after-survey-ports .survey-ports .ensures)) (c .before .if1 .taken))
 
 shr-held : tie.Need-shr-held
-shr-held c = omega (arith, c .before .before .before .before .before .before .before .before .before .before .pre .1 .0, bounded _ (c .before .before .before .before .before .before .before .before .before .before .pre .0 .range) .ports)
+shr-held c = let start : tie.Start = search in omega (arith, start .pre .1 .0, bounded _ (start .pre .0 .range) .ports)
 
 shr-stores : tie.Need-shr-stores
-shr-stores c = omega (arith, c .before .before .before .before .before .before .before .before .before .before .before .pre .1 .0, bounded _ (c .before .before .before .before .before .before .before .before .before .before .before .pre .0 .range) .ports)
+shr-stores c = let start : tie.Start = search in omega (arith, start .pre .1 .0, bounded _ (start .pre .0 .range) .ports)
 
 mul-at : tie.Need-mul-at
 unfolding lineOf
-mul-at c = omega (arith, own-small _ _ (c .before .before .before .before .before .before .before .before .before .before .before .pre .0 .range) (c .before .before .before .before .before .before .before .before .before .before .before .args .i) (c .before .before .before .before .before .before .before .before .before .before .before .pre .1 .0) (c .before .before .before .before .before .before .line-of .ensures))
+mul-at c =
+    let after-line-of : tie.After-line-of = search in let start : tie.Start = search in
+    omega (arith, own-small _ _ (start .pre .0 .range) (start .args .i) (start .pre .1 .0) (after-line-of .line-of .ensures))
 
 add-at : tie.Need-add-at
 unfolding lineOf
-add-at c = omega (arith, own-small _ _ (c .before .before .before .before .before .before .before .before .before .before .before .before .pre .0 .range) (c .before .before .before .before .before .before .before .before .before .before .before .before .args .i) (c .before .before .before .before .before .before .before .before .before .before .before .before .pre .1 .0) (c .before .before .before .before .before .before .before .line-of .ensures))
+add-at c =
+    let after-line-of : tie.After-line-of = search in let start : tie.Start = search in
+    omega (arith, own-small _ _ (start .pre .0 .range) (start .args .i) (start .pre .1 .0) (after-line-of .line-of .ensures))
 
 word-at-requires : tie.Need-word-at-requires
-word-at-requires c κs = room (c .before .before .before .before .before .before .before .before .before .before .before .before .pre .0 .filled) (own-there _ _ (c .before .before .before .before .before .before .before .before .before .before .before .before .pre .0 .range) (c .before .before .before .before .before .before .before .before .before .before .before .before .args .i) (c .before .before .before .before .before .before .before .before .before .before .before .before .pre .1 .0) (c .before .before .before .before .before .before .before .line-of .ensures)) .in-words
+word-at-requires c κs =
+    let after-line-of : tie.After-line-of = search in let start : tie.Start = search in
+    room (start .pre .0 .filled) (own-there _ _ (start .pre .0 .range) (start .args .i) (start .pre .1 .0)
+        (after-line-of .line-of .ensures)) .in-words
 
 empty-if-requires : tie.Need-empty-if-requires
-empty-if-requires c κs = room (c .before .before .before .before .before .before .before .before .before .before .before .before .before .before .pre .0 .filled) (own-there _ _ (c .before .before .before .before .before .before .before .before .before .before .before .before .before .before .pre .0 .range) (c .before .before .before .before .before .before .before .before .before .before .before .before .before .before .args .i) (c .before .before .before .before .before .before .before .before .before .before .before .before .before .before .pre .1 .0) (c .before .before .before .before .before .before .before .before .before .line-of .ensures)) .in-states
+empty-if-requires c κs =
+    let after-line-of : tie.After-line-of = search in let start : tie.Start = search in
+    room (start .pre .0 .filled) (own-there _ _ (start .pre .0 .range) (start .args .i) (start .pre .1 .0)
+        (after-line-of .line-of .ensures)) .in-states
 
 store-if-requires : tie.Need-store-if-requires
-store-if-requires c κs = (c .before .before .before .before .before .before .before .before .before .before .before .before .before .before .before .before .before .before .pre .0 .memory-fits, λ _. c .before .before .before .before .before .before .before .before .before .before .before .before .before .before .before .before .before .before .pre .1 .1)
+store-if-requires c κs = let start : tie.Start = search in (start .pre .0 .memory-fits, λ _. start .pre .1 .1)
 
 returns-2 : tie.Need-returns-2
 unfolding lineOf tablesIn
-returns-2 c = let v = placed _ _ (c .before .before .before .before .before .before .before .before .before .before .before .before .before .before .before .before .before .before .before .before .before .before .pre .0 .range) (c .before .before .before .before .before .before .before .before .before .before .before .before .before .before .before .before .before .before .before .before .before .before .pre .1 .1) refl in
-    let p = rw (c .before .before .before .before .before .before .before .before .before .before .before .before .before .before .before .before .before .line-of .ensures) at (c .before .before .before .before .before .before .before .before .before .before .before .before .before .before .before .survey-ports .ensures) in
-    rw (column-sound _ (bytes (c .before .before .before .before .before .before .before .before .before .before .before .before .before .before .before .before .before .before .before .before .before .before .args .memory .now) (c .before .before .before .before .before .before .before .before .before .before .before .before .before .before .before .before .before .before .before .before .before .before .args .tags .now) (c .before .before .before .before .before .before .before .before .before .before .before .before .before .before .before .before .before .before .before .before .before .before .args .states .now) (c .before .before .before .before .before .before .before .before .before .before .before .before .before .before .before .before .before .before .before .before .before .before .args .words .now)) _ p (c .before .before .before .before .before .before .before .before .before .before .before .before .before .if1 .left))
-    (flush-done v _ _ _ _ _ (c .before .before .before .before .before .before .before .before .before .before .before .before .before .before .before .before .before .before .before .before .before .before .pre .1 .0) (masks-states _ _ _ p (not-false _ (c .before .before .before .before .before .before .before .before .before .before .before .before .before .if1 .left))) _ _ (masks-hit _ _ _ p _ (c .before .before .before .before .before .before .before .before .before .before .before .before .before .before .before .before .before .before .before .before .before .before .pre .1 .0)) (masks-own _ _ _ p _ (c .before .before .before .before .before .before .before .before .before .before .before .before .before .before .before .before .before .before .before .before .before .before .pre .1 .0))
-    (owner-word v (c .before .before .before .before .before .before .before .before .before .before .before .before .before .before .before .before .before .before .before .before .before .before .pre .0 .filled) _ (c .before .before .before .before .before .before .before .before .before .before .before .before .before .before .before .before .before .before .before .before .before .before .pre .1 .0) (rw (c .before .before .before .before .before .before .before .before .before .before .before .before .before .before .before .before .before .line-of .ensures) at (c .before .before .before .before .before .before .before .before .before .word-at .ensures))) (rw (c .before .before .before .before .before .before .before .before .before .before .before .before .before .before .before .before .before .line-of .ensures) at (c .before .before .before .before .before .before .before .empty-if .ensures)) (c .before .before .before .store-if .ensures) (c .number .ensures .0))
+returns-2 c =
+    let after-store-if : tie.After-store-if = search in let after-empty-if : tie.After-empty-if = search in
+    let after-word-at : tie.After-word-at = search in let else-1 : tie.Else1 = search in let after-survey-ports : tie.After-survey-ports = search in
+    let after-line-of : tie.After-line-of = search in let start : tie.Start = search in
+    let v = placed _ _ (start .pre .0 .range) (start .pre .1 .1) refl in
+    let p = rw (after-line-of .line-of .ensures) at (after-survey-ports .survey-ports .ensures) in
+    rw (column-sound _ (bytes (start .args .memory .now) (start .args .tags .now) (start .args .states .now) (start .args .words .now)) _ p
+        (else-1 .if1 .left)) (flush-done v _ _ _ _ _ (start .pre .1 .0) (masks-states _ _ _ p (not-false _ (else-1 .if1 .left))) _ _
+        (masks-hit _ _ _ p _ (start .pre .1 .0)) (masks-own _ _ _ p _ (start .pre .1 .0))
+        (owner-word v (start .pre .0 .filled) _ (start .pre .1 .0) (rw (after-line-of .line-of .ensures) at (after-word-at .word-at .ensures)))
+        (rw (after-line-of .line-of .ensures) at (after-empty-if .empty-if .ensures)) (after-store-if .store-if .ensures) (c .number .ensures .0))
 
 pub flush-line-spec : {M : Type 1} → statement M
 flush-line-spec =

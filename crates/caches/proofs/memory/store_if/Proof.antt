@@ -6,10 +6,13 @@ use Rattle.caches.proofs.memory.store_if.Statement.{statement}
 use Rattle.caches.proofs.memory.store_if.Tie as tie
 
 put-word-requires : tie.Need-put-word-requires
-put-word-requires c κs = omega (arith, c .before .before .before .pre .0, c .before .before .before .pre .1 (c .before .if1 .taken))
+put-word-requires c κs = let start : tie.Start = search in omega (arith, start .pre .0, start .pre .1 (c .before .if1 .taken))
 
 returns : tie.Need-returns
-returns c = stored _ (c .before .before .before .before .before .before .args .memory .now) (c .before .before .before .before .if1 .taken) (c .before .before .before .before .before .before .pre .0) (c .before .before .before .before .before .before .pre .1 (c .before .before .before .before .if1 .taken)) (omega (arith, c .before .before .before .before .before .before .fits .w)) (c .before .before .put-word .ensures)
+returns c =
+    let after-put-word : tie.After-put-word = search in let then-1 : tie.Then1 = search in let start : tie.Start = search in
+    stored _ (start .args .memory .now) (then-1 .if1 .taken) (start .pre .0) (start .pre .1 (then-1 .if1 .taken)) (omega (arith, start .fits .w))
+        (after-put-word .put-word .ensures)
 
 returns-2 : tie.Need-returns-2
 returns-2 c = rw (c .if1 .left)
