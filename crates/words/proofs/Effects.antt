@@ -42,14 +42,16 @@ unwritten (Swap mask x compare) w h =
 -- An effect put together from what is asked of the access, one by one.
 together : (a : Access) (w : ℕ)
     → let swapped = isSwap a && eqb (half (maskOf a) w) (compareOf a) in
-    effect (outcomeOf (isWrite a || swapped) (isSwap a)) (cond (isWrite a || swapped) (merge (maskOf a) w (operandOf a)) w) (cond (isWrite a) 0 w) swapped ≡ effectAt a w
+    effect (outcomeOf (isWrite a || swapped) (isSwap a)) (cond (isWrite a || swapped) (merge (maskOf a) w (operandOf a)) w) (cond (isWrite a) 0 w)
+    swapped ≡ effectAt a w
 unfolding effectAt
 together Read w = refl
 together (Write mask x) w = refl
 together (Swap mask x compare) w = by-bool (eqb (half mask w) compare) (λ h. rw h) (λ h. rw (not-true (eqb (half mask w) compare) h))
 
 pub effect-is : (a : Access) (w : ℕ) {mask half' compare operand full word value : ℕ} {write swap : Bool} {o : Outcome}
-    → mask ≡ maskOf a → write ≡ isWrite a → swap ≡ isSwap a → half' ≡ half mask w → compare ≡ compareOf a → operand ≡ operandOf a → full ≡ merge mask w operand
+    → mask ≡ maskOf a → write ≡ isWrite a → swap ≡ isSwap a → half' ≡ half mask w → compare ≡ compareOf a
+    → operand ≡ operandOf a → full ≡ merge mask w operand
     → o ≡ outcomeOf (write || (swap && eqb half' compare)) swap → word ≡ cond (write || (swap && eqb half' compare)) full w → value ≡ cond write 0 w
     → effect o word value (swap && eqb half' compare) ≡ effectAt a w
 effect-is a w p1 p2 p3 p4 p5 p6 p7 p8 p9 p10 = rw (p10, p9, p8, p7, p6, p5, p4, p3, p2, p1) (together a w)

@@ -25,7 +25,8 @@ unfolding merge mergeLow
 merge-is mask w x e0 e1 e2 e3 e4 e5 e6 e7 = rw (e0, e1, e2, e3, e4, e5, e6, e7, ← low mask w x)
 
 -- A number by its bytes.
-digits : (x a1 a2 a3 a4 a5 a6 a7 b0 b1 b2 b3 b4 b5 b6 b7 : ℕ) → x ≡ b0 + a1 * 256 → a1 ≡ b1 + a2 * 256 → a2 ≡ b2 + a3 * 256 → a3 ≡ b3 + a4 * 256 → a4 ≡ b4 + a5 * 256
+digits : (x a1 a2 a3 a4 a5 a6 a7 b0 b1 b2 b3 b4 b5 b6 b7 : ℕ) → x ≡ b0 + a1 * 256 → a1 ≡ b1 + a2 * 256 → a2 ≡ b2 + a3 * 256
+    → a3 ≡ b3 + a4 * 256 → a4 ≡ b4 + a5 * 256
     → a5 ≡ b5 + a6 * 256 → a6 ≡ b6 + a7 * 256 → a7 ≡ b7
     → x ≡ b0 + b1 * 256 + b2 * 65536 + b3 * 16777216 + b4 * 4294967296 + b5 * 1099511627776 + b6 * 281474976710656 + b7 * 72057594037927936
 digits x a1 a2 a3 a4 a5 a6 a7 b0 b1 b2 b3 b4 b5 b6 b7 e0 e1 e2 e3 e4 e5 e6 e7 = omega arith
@@ -33,7 +34,8 @@ digits x a1 a2 a3 a4 a5 a6 a7 b0 b1 b2 b3 b4 b5 b6 b7 e0 e1 e2 e3 e4 e5 e6 e7 = 
 -- Under the full mask the operand is the word.
 pub merge-full : (mask w x : ℕ) → mask ≡ 255 → x < 2 ^ 64 → x ≡ merge mask w x
 merge-full mask w x e h =
-    rw e (digits x (x / 256) (x / 65536) (x / 16777216) (x / 4294967296) (x / 1099511627776) (x / 281474976710656) (x / 72057594037927936) (x % 256) (x / 256 % 256) (x / 65536 % 256)
+    rw e (digits x (x / 256) (x / 65536) (x / 16777216) (x / 4294967296) (x / 1099511627776) (x / 281474976710656) (x / 72057594037927936) (x % 256)
+    (x / 256 % 256) (x / 65536 % 256)
     (x / 16777216 % 256) (x / 4294967296 % 256) (x / 1099511627776 % 256) (x / 281474976710656 % 256) (x / 72057594037927936 % 256)
     (omega arith) (omega arith) (omega arith) (omega arith) (omega arith) (omega arith) (omega arith) (omega arith)
     ∙ merge-is 255 w x refl refl refl refl refl refl refl refl)

@@ -18,25 +18,40 @@ word-at-requires c κs = let start : tie.Start = search in in-memory (start .pre
 survey-ports-requires : tie.Need-survey-ports-requires
 unfolding lineOf
 survey-ports-requires c κs =
-    let after-line-of : tie.After-line-of = search in let start : tie.Start = search in
-    (rw (after-line-of .line-of .ensures) (start .pre .0 .filled), placed _ _ (start .pre .0 .range) (start .pre .1 .1)
-        (after-line-of .line-of .ensures))
+    let after-line-of : tie.After-line-of = search in let start : tie.Start = search in (
+      rw (after-line-of .line-of .ensures) (start .pre .0 .filled),
+      placed _ _ (start .pre .0 .range) (start .pre .1 .1)
+          (after-line-of .line-of .ensures),
+    )
 
 returns : tie.Need-returns
 unfolding lineOf
 returns c =
     let after-survey-ports : tie.After-survey-ports = search in let after-line-of : tie.After-line-of = search in let start : tie.Start = search in
-    rw (c .refuse .ensures, column-unsound _ (bytes (start .args .memory .now) (start .args .tags .now) (start .args .states .now)
-        (start .args .words .now)) _ (rw (after-line-of .line-of .ensures) at (after-survey-ports .survey-ports .ensures)) (c .before .if1 .taken))
+    rw (
+      c .refuse .ensures,
+      column-unsound _ (bytes (start .args .memory .now) (start .args .tags .now) (start .args .states .now)
+          (start .args .words .now)) _ (rw (after-line-of .line-of .ensures) at (after-survey-ports .survey-ports .ensures)) (c .before .if1 .taken),
+    )
 
 access-sound-requires : tie.Need-access-sound-requires
 unfolding lineOf
 access-sound-requires c κs =
     let else-1 : tie.Else1 = search in let after-survey-ports : tie.After-survey-ports = search in let after-word-at : tie.After-word-at = search in
-    let after-line-of : tie.After-line-of = search in let start : tie.Start = search in
-    (rw (after-line-of .line-of .ensures) (start .pre .0), (placed _ _ (start .pre .0 .range) (start .pre .1 .1) (after-line-of .line-of .ensures),
-        (rw (after-line-of .line-of .ensures) (start .pre .1 .0), ((after-survey-ports .survey-ports .ensures, not-false _ (else-1 .if1 .left)), rw
-        (after-line-of .line-of .ensures) (memory-word (start .pre .0) (start .pre .1 .1) (after-word-at .word-at .ensures))))))
+    let after-line-of : tie.After-line-of = search in let start : tie.Start = search in (
+      rw (after-line-of .line-of .ensures) (start .pre .0),
+      (
+        placed _ _ (start .pre .0 .range) (start .pre .1 .1) (after-line-of .line-of .ensures),
+        (
+          rw (after-line-of .line-of .ensures) (start .pre .1 .0),
+          (
+            (after-survey-ports .survey-ports .ensures, not-false _ (else-1 .if1 .left)),
+            rw
+                (after-line-of .line-of .ensures) (memory-word (start .pre .0) (start .pre .1 .1) (after-word-at .word-at .ensures)),
+          ),
+        ),
+      ),
+    )
 
 returns-2 : tie.Need-returns-2
 unfolding lineOf
@@ -44,8 +59,8 @@ returns-2 c =
     let after-access-sound : tie.After-access-sound = search in let else-1 : tie.Else1 = search in
     let after-survey-ports : tie.After-survey-ports = search in let after-line-of : tie.After-line-of = search in let start : tie.Start = search in
     rw (column-sound _ (bytes (start .args .memory .now) (start .args .tags .now) (start .args .states .now) (start .args .words .now)) _
-        (rw (after-line-of .line-of .ensures) at (after-survey-ports .survey-ports .ensures)) (else-1 .if1 .left))
-        (rw (after-line-of .line-of .ensures) at (after-access-sound .access-sound .ensures))
+    (rw (after-line-of .line-of .ensures) at (after-survey-ports .survey-ports .ensures)) (else-1 .if1 .left))
+    (rw (after-line-of .line-of .ensures) at (after-access-sound .access-sound .ensures))
 
 pub access-line-spec : {M : Type 1} → statement M
 access-line-spec =

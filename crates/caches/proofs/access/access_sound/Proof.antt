@@ -15,48 +15,70 @@ use Rattle.caches.proofs.access.access_sound.Tie as tie
 -- The points behind this one, by name.
 abbrev start-of-entry-at : tie.After-entry-at → tie.Start
 start-of-entry-at c = c .before .before .before .before .before .before .before .before .before
+
 abbrev start-of-own-rule : tie.After-own-rule → tie.Start
 start-of-own-rule c = start-of-entry-at (c .before .before .before .before .before .before .before .before .before .before)
+
 abbrev start-of-slice-known3 : tie.After-slice-known3 → tie.Start
 start-of-slice-known3 c = c .before .before .before
+
 abbrev start-of-find-word-arg : tie.After-find-word-arg → tie.Start
 start-of-find-word-arg c = start-of-slice-known3 (c .before .before .before .before .before .before .before .before .before .before)
+
 abbrev start-of-ask : tie.After-ask → tie.Start
 start-of-ask c = start-of-find-word-arg (c .before .before .before .before .before .before .before .before .before .before)
+
 abbrev start-of-slice-known : tie.After-slice-known → tie.Start
 start-of-slice-known c = c .before
+
 abbrev start-of-struct-known2 : tie.After-struct-known2 → tie.Start
 start-of-struct-known2 c = start-of-slice-known (c .before .before .before .before .before .before .before .before .before .before)
+
 abbrev start-of-ask-arg2 : tie.After-ask-arg2 → tie.Start
 start-of-ask-arg2 c = start-of-struct-known2 (c .before .before .before .before .before .before .before .before .before .before)
+
 abbrev start-of-put-entry-arg2 : tie.After-put-entry-arg2 → tie.Start
 start-of-put-entry-arg2 c = start-of-ask-arg2 (c .before .before .before .before .before .before .before .before .before .before)
+
 abbrev start-of-is-owner : tie.After-is-owner → tie.Start
 start-of-is-owner c = start-of-put-entry-arg2 (c .before .before .before .before .before .before .before .before .before .before)
+
 abbrev entry-at-of-struct-known : tie.After-struct-known → tie.After-entry-at
 entry-at-of-struct-known c = c .before
+
 abbrev entry-at-of-ask-arg : tie.After-ask-arg → tie.After-entry-at
 entry-at-of-ask-arg c = entry-at-of-struct-known (c .before .before .before .before .before .before .before .before .before .before)
+
 abbrev entry-at-of-put-entry-arg : tie.After-put-entry-arg → tie.After-entry-at
 entry-at-of-put-entry-arg c = entry-at-of-ask-arg (c .before .before .before .before .before .before .before .before .before .before)
+
 abbrev entry-at-of-byte-state : tie.After-byte-state → tie.After-entry-at
 entry-at-of-byte-state c = entry-at-of-put-entry-arg (c .before .before .before .before .before .before .before .before .before .before)
+
 abbrev start-of-slice-known4 : tie.After-slice-known4 → tie.Start
 start-of-slice-known4 c = c .before .before .before .before
+
 abbrev start-of-find-word-arg2 : tie.After-find-word-arg2 → tie.Start
 start-of-find-word-arg2 c = start-of-slice-known4 (c .before .before .before .before .before .before .before .before .before .before)
+
 abbrev start-of-tags : tie.After-tags → tie.Start
 start-of-tags c = start-of-find-word-arg2 (c .before .before .before .before .before .before .before .before .before .before)
+
 abbrev start-of-tags2 : tie.After-tags2 → tie.Start
 start-of-tags2 c = start-of-tags (c .before .before .before .before .before .before .before .before .before .before)
+
 abbrev start-of-store-if : tie.After-store-if → tie.Start
 start-of-store-if c = start-of-tags2 (c .before .before .before .before .before .before .before .before .before .before)
+
 abbrev put-entry-of-byte-state : tie.After-byte-state → tie.After-put-entry
 put-entry-of-byte-state c = c .before .before .before .before .before .before .before
+
 abbrev ask-of-put-entry : tie.After-put-entry → tie.After-ask
 ask-of-put-entry c = c .before .before .before .before .before .before .before .before .before .before
+
 abbrev own-rule-of-ask : tie.After-ask → tie.After-own-rule
 own-rule-of-ask c = c .before .before .before .before
+
 abbrev entry-at-of-find-word : tie.After-find-word → tie.After-entry-at
 entry-at-of-find-word c = c .before .before .before .before .before .before .before
 
@@ -89,16 +111,26 @@ own-rule-requires : tie.Need-own-rule-requires
 own-rule-requires c κs =
     let after-entry-at : tie.After-entry-at = search in let start : tie.Start = search in
     chosen-state (eqb (start .args .said .holders / 2 ^ start .args .i % 2) 1) _ (c .choose-byte .ensures)
-        (entry-state (start .pre .1 .0) _ _ _ _ (start .pre .1 .1 .0) (after-entry-at .entry-at .ensures) (start .pre .1 .1 .1 .0 .0)
-        (start .pre .1 .1 .1 .0 .1))
+    (entry-state (start .pre .1 .0) _ _ _ _ (start .pre .1 .1 .0) (after-entry-at .entry-at .ensures) (start .pre .1 .1 .1 .0 .0)
+    (start .pre .1 .1 .1 .0 .1))
 
 ask-requires : tie.Need-ask-requires
 unfolding tablesIn
 ask-requires c κs =
-    let after-own-rule : tie.After-own-rule = search in let start = start-of-own-rule after-own-rule in
-    (start .pre .0 .filled, (start .pre .1 .0, (masks-states _ _ _ (start .pre .1 .1 .1 .0 .0) (start .pre .1 .1 .1 .0 .1),
-        (bit-away _ _ _ (masks-holders _ _ _ (start .pre .1 .1 .1 .0 .0)) (start .pre .1 .1 .0) (few (start .pre .1 .0)) .1, bus-fits _
-        (after-own-rule .own-rule .ensures)))))
+    let after-own-rule : tie.After-own-rule = search in let start = start-of-own-rule after-own-rule in (
+      start .pre .0 .filled,
+      (
+        start .pre .1 .0,
+        (
+          masks-states _ _ _ (start .pre .1 .1 .1 .0 .0) (start .pre .1 .1 .1 .0 .1),
+          (
+            bit-away _ _ _ (masks-holders _ _ _ (start .pre .1 .1 .1 .0 .0)) (start .pre .1 .1 .0) (few (start .pre .1 .0)) .1,
+            bus-fits _
+                (after-own-rule .own-rule .ensures),
+          ),
+        ),
+      ),
+    )
 
 put-entry-requires : tie.Need-put-entry-requires
 put-entry-requires c κs =
@@ -112,10 +144,12 @@ home-of-requires c κs = let start = start-of-is-owner c in sets-small (start .p
 store-if-requires : tie.Need-store-if-requires
 store-if-requires c κs =
     let after-is-owner : tie.After-is-owner = search in let after-byte-state : tie.After-byte-state = search in
-    let after-entry-at = entry-at-of-byte-state after-byte-state in let start : tie.Start = search in
-    (start .pre .0 .memory-fits, λ v. home-below (start .pre .1 .0) _ _ _ _ (start .pre .1 .1 .0) (after-entry-at .entry-at .ensures)
-        (after-byte-state .byte-state .ensures) (after-is-owner .is-owner .ensures) (start .pre .1 .1 .1 .0 .0) (start .pre .1 .1 .1 .0 .1)
-        (eqb (start .args .said .holders / 2 ^ start .args .i % 2) 1) (c .before .home-of .ensures) v)
+    let after-entry-at = entry-at-of-byte-state after-byte-state in let start : tie.Start = search in (
+      start .pre .0 .memory-fits,
+      λ v. home-below (start .pre .1 .0) _ _ _ _ (start .pre .1 .1 .0) (after-entry-at .entry-at .ensures)
+          (after-byte-state .byte-state .ensures) (after-is-owner .is-owner .ensures) (start .pre .1 .1 .1 .0 .0) (start .pre .1 .1 .1 .0 .1)
+          (eqb (start .args .said .holders / 2 ^ start .args .i % 2) 1) (c .before .home-of .ensures) v,
+    )
 
 store-if-requires-2 : tie.Need-store-if-requires-2
 store-if-requires-2 c κs =
@@ -134,12 +168,12 @@ returns c =
     let start = start-of-entry-at after-entry-at in
     let p = start .pre .1 .1 .1 .0 .0 in
     access-done (start .pre .1 .0) _ _ _ _ (start .pre .1 .1 .0) (after-entry-at .entry-at .ensures) (after-byte-state .byte-state .ensures)
-        (after-is-owner .is-owner .ensures) _ _ _ _ (masks-hit _ _ _ p _ (start .pre .1 .1 .0))
-        (bit-away _ _ _ (masks-holders _ _ _ p) (start .pre .1 .1 .0) (few (start .pre .1 .0)) .1) (masks-dirty _ _ _ p) (start .pre .1 .1 .1 .1)
-        (after-find-word .find-word .ensures) (after-effect-at .effect-at .ensures) (after-choose-byte .choose-byte .ensures)
-        (after-own-rule .own-rule .ensures) (after-ask .ask .ensures) (after-put-entry .put-entry .ensures) (after-home-of .home-of .ensures)
-        (after-store-if .store-if .ensures) (after-store-if2 .store-if2 .ensures) (after-number .number .ensures .0)
-        (after-number2 .number2 .ensures .0) (c .before .number3 .ensures .0) (c .number4 .ensures .0)
+    (after-is-owner .is-owner .ensures) _ _ _ _ (masks-hit _ _ _ p _ (start .pre .1 .1 .0))
+    (bit-away _ _ _ (masks-holders _ _ _ p) (start .pre .1 .1 .0) (few (start .pre .1 .0)) .1) (masks-dirty _ _ _ p) (start .pre .1 .1 .1 .1)
+    (after-find-word .find-word .ensures) (after-effect-at .effect-at .ensures) (after-choose-byte .choose-byte .ensures)
+    (after-own-rule .own-rule .ensures) (after-ask .ask .ensures) (after-put-entry .put-entry .ensures) (after-home-of .home-of .ensures)
+    (after-store-if .store-if .ensures) (after-store-if2 .store-if2 .ensures) (after-number .number .ensures .0)
+    (after-number2 .number2 .ensures .0) (c .before .number3 .ensures .0) (c .number4 .ensures .0)
 
 pub access-sound-spec : {M : Type 1} → statement M
 access-sound-spec =

@@ -22,27 +22,33 @@ cast-p c =
 mul-word-at : tie.Need-mul-word-at
 mul-word-at c =
     let start : tie.Start = search in
-    omega (arith, small (start .pre .1 .0) (trailingZeros 64 (start .args .owners))
-        (first-port _ _ (start .pre .1 .1) (omega (arith, few (start .pre .1 .0))) (c .if2 .left) .below))
+    omega (
+      arith,
+      small (start .pre .1 .0) (trailingZeros 64 (start .args .owners))
+          (first-port _ _ (start .pre .1 .1) (omega (arith, few (start .pre .1 .0))) (c .if2 .left) .below),
+    )
 
 add-word-at : tie.Need-add-word-at
 add-word-at c =
     let start : tie.Start = search in
-    omega (arith, small (start .pre .1 .0) (trailingZeros 64 (start .args .owners))
-        (first-port _ _ (start .pre .1 .1) (omega (arith, few (start .pre .1 .0))) (c .before .if2 .left) .below))
+    omega (
+      arith,
+      small (start .pre .1 .0) (trailingZeros 64 (start .args .owners))
+          (first-port _ _ (start .pre .1 .1) (omega (arith, few (start .pre .1 .0))) (c .before .if2 .left) .below),
+    )
 
 word-at-requires : tie.Need-word-at-requires
 word-at-requires c κs =
     let start : tie.Start = search in
     room (start .pre .0) (there (start .pre .1 .0) (trailingZeros 64 (start .args .owners))
-        (first-port _ _ (start .pre .1 .1) (omega (arith, few (start .pre .1 .0))) (c .before .if2 .left) .below)) .in-words
+    (first-port _ _ (start .pre .1 .1) (omega (arith, few (start .pre .1 .0))) (c .before .if2 .left) .below)) .in-words
 
 returns-3 : tie.Need-returns-3
 returns-3 c =
     let else-2 : tie.Else2 = search in let else-1 : tie.Else1 = search in let start : tie.Start = search in
     let h = first-port _ _ (start .pre .1 .1) (omega (arith, few (start .pre .1 .0))) (else-2 .if2 .left) .below in
     rw (else-1 .if1 .left) (owner-word (start .pre .1 .0) (start .pre .0) (trailingZeros 64 (start .args .owners)) h (c .word-at .ensures) ∙
-        found-first _ _ (start .pre .1 .1) _ _ (omega (arith, few (start .pre .1 .0))) (else-2 .if2 .left))
+    found-first _ _ (start .pre .1 .1) _ _ (omega (arith, few (start .pre .1 .0))) (else-2 .if2 .left))
 
 pub find-word-spec : {M : Type 1} → statement M
 find-word-spec =

@@ -26,8 +26,11 @@ returns : tie.Need-returns
 unfolding lineOf
 returns c =
     let after-survey-ports : tie.After-survey-ports = search in let after-line-of : tie.After-line-of = search in let start : tie.Start = search in
-    rw (c .refuse .ensures, column-unsound _ (bytes (start .args .memory .now) (start .args .tags .now) (start .args .states .now)
-        (start .args .words .now)) _ (rw (after-line-of .line-of .ensures) at (after-survey-ports .survey-ports .ensures)) (c .before .if1 .taken))
+    rw (
+      c .refuse .ensures,
+      column-unsound _ (bytes (start .args .memory .now) (start .args .tags .now) (start .args .states .now)
+          (start .args .words .now)) _ (rw (after-line-of .line-of .ensures) at (after-survey-ports .survey-ports .ensures)) (c .before .if1 .taken),
+    )
 
 shr-held : tie.Need-shr-held
 shr-held c = let start : tie.Start = search in omega (arith, start .pre .1 .0, bounded _ (start .pre .0 .range) .ports)
@@ -51,13 +54,13 @@ word-at-requires : tie.Need-word-at-requires
 word-at-requires c κs =
     let after-line-of : tie.After-line-of = search in let start : tie.Start = search in
     room (start .pre .0 .filled) (own-there _ _ (start .pre .0 .range) (start .args .i) (start .pre .1 .0)
-        (after-line-of .line-of .ensures)) .in-words
+    (after-line-of .line-of .ensures)) .in-words
 
 empty-if-requires : tie.Need-empty-if-requires
 empty-if-requires c κs =
     let after-line-of : tie.After-line-of = search in let start : tie.Start = search in
     room (start .pre .0 .filled) (own-there _ _ (start .pre .0 .range) (start .args .i) (start .pre .1 .0)
-        (after-line-of .line-of .ensures)) .in-states
+    (after-line-of .line-of .ensures)) .in-states
 
 store-if-requires : tie.Need-store-if-requires
 store-if-requires c κs = let start : tie.Start = search in (start .pre .0 .memory-fits, λ _. start .pre .1 .1)
@@ -71,10 +74,10 @@ returns-2 c =
     let v = placed _ _ (start .pre .0 .range) (start .pre .1 .1) refl in
     let p = rw (after-line-of .line-of .ensures) at (after-survey-ports .survey-ports .ensures) in
     rw (column-sound _ (bytes (start .args .memory .now) (start .args .tags .now) (start .args .states .now) (start .args .words .now)) _ p
-        (else-1 .if1 .left)) (flush-done v _ _ _ _ _ (start .pre .1 .0) (masks-states _ _ _ p (not-false _ (else-1 .if1 .left))) _ _
-        (masks-hit _ _ _ p _ (start .pre .1 .0)) (masks-own _ _ _ p _ (start .pre .1 .0))
-        (owner-word v (start .pre .0 .filled) _ (start .pre .1 .0) (rw (after-line-of .line-of .ensures) at (after-word-at .word-at .ensures)))
-        (rw (after-line-of .line-of .ensures) at (after-empty-if .empty-if .ensures)) (after-store-if .store-if .ensures) (c .number .ensures .0))
+    (else-1 .if1 .left)) (flush-done v _ _ _ _ _ (start .pre .1 .0) (masks-states _ _ _ p (not-false _ (else-1 .if1 .left))) _ _
+    (masks-hit _ _ _ p _ (start .pre .1 .0)) (masks-own _ _ _ p _ (start .pre .1 .0))
+    (owner-word v (start .pre .0 .filled) _ (start .pre .1 .0) (rw (after-line-of .line-of .ensures) at (after-word-at .word-at .ensures)))
+    (rw (after-line-of .line-of .ensures) at (after-empty-if .empty-if .ensures)) (after-store-if .store-if .ensures) (c .number .ensures .0))
 
 pub flush-line-spec : {M : Type 1} → statement M
 flush-line-spec =

@@ -12,7 +12,7 @@ returns : tie.Need-returns
 returns c =
     let after-put-word : tie.After-put-word = search in let then-1 : tie.Then1 = search in let start : tie.Start = search in
     stored _ (start .args .memory .now) (then-1 .if1 .taken) (start .pre .0) (start .pre .1 (then-1 .if1 .taken)) (omega (arith, start .fits .w))
-        (after-put-word .put-word .ensures)
+    (after-put-word .put-word .ensures)
 
 returns-2 : tie.Need-returns-2
 returns-2 c = rw (c .if1 .left)
