@@ -52,7 +52,8 @@ four-stored s at x =
     rw (a, b, c, d, e)
 
 -- The next four, with the lowest four already stored.
-pub eight-stored : (s : List ℕ) (at x : ℕ) {y z : List ℕ} → y ≡ sets s at (bytesOf 4 x) → z ≡ sets y (at + 4) (bytesOf 4 (x / 4294967296)) → z ≡ sets s at (bytesOf 8 x)
+pub eight-stored : (s : List ℕ) (at x : ℕ) {y z : List ℕ} → y ≡ sets s at (bytesOf 4 x)
+    → z ≡ sets y (at + 4) (bytesOf 4 (x / 4294967296)) → z ≡ sets s at (bytesOf 8 x)
 unfolding bytesOf
 eight-stored s at x {y} {z} ey ez =
     let a : at + 4 ≡ suc (suc (suc (suc at))) = omega arith in
@@ -101,7 +102,8 @@ unfolding numbers
 get-numbers w zero k bs h = absurd (omega arith)
 get-numbers w (suc n) zero bs h = rw (mul-zero w)
 get-numbers w (suc n) (suc k) bs h =
-    get-numbers w n k (drop w bs) (omega arith) ∙ ap (number w) (drop-drop (w * k) w bs ∙ ap (λ (j : ℕ). drop j bs) (sym (mul-suc w k ∙ add-comm (w * k) w)))
+    get-numbers w n k (drop w bs) (omega arith) ∙ ap (number w)
+    (drop-drop (w * k) w bs ∙ ap (λ (j : ℕ). drop j bs) (sym (mul-suc w k ∙ add-comm (w * k) w)))
 
 pub length-numbers : (w n : ℕ) (bs : List ℕ) → length (numbers w n bs) ≡ n
 unfolding numbers
@@ -109,7 +111,8 @@ length-numbers w zero bs = refl
 length-numbers w (suc n) bs = ap suc (length-numbers w n (drop w bs))
 
 -- Number k stored.
-pub set-numbers : (w n k x : ℕ) (bs : List ℕ) → k < n → x < 256 ^ w → w * n ≤ length bs → numbers w n (sets bs (w * k) (bytesOf w x)) ≡ set (numbers w n bs) k x
+pub set-numbers : (w n k x : ℕ) (bs : List ℕ) → k < n → x < 256 ^ w → w * n ≤ length bs
+    → numbers w n (sets bs (w * k) (bytesOf w x)) ≡ set (numbers w n bs) k x
 unfolding numbers
 set-numbers w zero k x bs h v r = absurd (omega arith)
 set-numbers w (suc n) zero x bs h v r =
@@ -117,7 +120,14 @@ set-numbers w (suc n) zero x bs h v r =
     rw (mul-zero w, number-stored w x bs v b, behind-stored w x bs b)
 set-numbers w (suc n) (suc k) x bs h v r =
     let b : w * n ≤ length (drop w bs) = rw (length-drop w bs) (omega (arith, mul-suc w n)) in
-    rw (mul-suc w k, add-comm (w * k) w, number-before w (w * k) bs (bytesOf w x), drop-sets w (w * k) bs (bytesOf w x), set-numbers w n k x (drop w bs) (omega arith) v b)
+    rw (
+      mul-suc w k,
+      add-comm (w * k) w,
+      number-before w (w * k) bs (bytesOf w x),
+      drop-sets w (w * k) bs (bytesOf w x),
+      set-numbers w n k x
+          (drop w bs) (omega arith) v b,
+    )
 
 -- Bytes read as numbers and written as bytes again are the same.
 same-number : (w : ℕ) (bs : List ℕ) → ((k : ℕ) → getD bs k 0 < 256) → w ≤ length bs → bytesOf w (number w bs) ≡ take w bs
@@ -139,7 +149,8 @@ same-bytes w zero bs h r = sym (no-bytes bs (r ∙ mul-zero w))
     no-bytes (b ∷ l) e = absurd (omega arith)
 same-bytes w (suc n) bs h r =
     let m : length bs ≡ w * n + w = r ∙ mul-suc w n in
-    rw (same-number w bs h (omega arith), same-bytes w n (drop w bs) (λ k. rw (getD-drop w bs k 0) (h (w + k))) (length-drop w bs ∙ omega arith)) (take-append-drop w bs)
+    rw (same-number w bs h (omega arith), same-bytes w n (drop w bs) (λ k. rw (getD-drop w bs k 0) (h (w + k))) (length-drop w bs ∙ omega arith))
+    (take-append-drop w bs)
 
 -- A number of w bytes is below 256 ^ w.
 pub number-fits : (w : ℕ) (bs : List ℕ) → ((k : ℕ) → getD bs k 0 < 256) → number w bs < 256 ^ w

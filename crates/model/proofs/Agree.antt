@@ -106,7 +106,8 @@ module _ (s : Shape) (t : Model) (f : Flat) (sim : Sim s t f) (a : ℕ) (line : 
       access-marks u =
           access-ownerless (s .ports) i (seen s t a) (wordAt s t a) (memoryAt t a) (wordIn f a) port (sim .good a line) (eff .outcome) m
           (eff .word) _ _ _ (line-after s t i a ready port the-rule (eff .word))
-          (unmarked-access (eff .outcome) m (markIn f a) (dirty s t a) (λ o. none-below (owns s t a) (s .ports) (sim .unmarked a line o)) (rw (moves .mark (rw (sim .flat-marks) line)) at u))
+          (unmarked-access (eff .outcome) m (markIn f a) (dirty s t a) (λ o. none-below (owns s t a) (s .ports) (sim .unmarked a line o))
+          (rw (moves .mark (rw (sim .flat-marks) line)) at u))
 
       access-sim : Sim s (applied s t i a the-rule (eff .word)) (flatAccess f acc m a .after)
       access-sim =
@@ -132,7 +133,8 @@ module _ (s : Shape) (t : Model) (f : Flat) (sim : Sim s t f) (a : ℕ) (line : 
     abbrev flushedTables : Model
     flushedTables = applied s t i a flushes (wordAt s t a i)
 
-    flush-after : After (s .ports) i flushes (wordAt s t a i) (seen s t a) (wordAt s t a) (memoryAt t a) (seen s flushedTables a) (wordAt s flushedTables a) (memoryAt flushedTables a)
+    flush-after : After (s .ports) i flushes (wordAt s t a i) (seen s t a) (wordAt s t a) (memoryAt t a) (seen s flushedTables a)
+        (wordAt s flushedTables a) (memoryAt flushedTables a)
     flush-after = line-after s t i a ready port flushes (wordAt s t a i)
 
     flush-others : (q : ℕ) → q < s .ports → q ≢ i → seen s flushedTables a q ≡ seen s t a q
@@ -154,12 +156,17 @@ module _ (s : Shape) (t : Model) (f : Flat) (sim : Sim s t f) (a : ℕ) (line : 
     unfolding flushed flatPerform
     flush-held v = rw v (record {
       agrees = record { refusal = refl; value = λ _. refl; swapped = refl; below-8 = omega arith };
-      sim = sim-after _ (leaves s t i a ready port flushes (wordAt s t a i)) f (sim .flat-words) (sim .flat-marks) (λ b d. refl) (λ b d. refl) (flush-line v) (λ u. flush-marks (sim .unmarked a line u));
+      sim = sim-after _ (leaves s t i a ready port flushes (wordAt s t a i)) f (sim .flat-words) (sim .flat-marks) (λ b d. refl) (λ b d. refl)
+          (flush-line v) (λ u. flush-marks (sim .unmarked a line u));
     })
 
     flush-missed : Is (not (holds s t a i)) → Goes s (flushed s t i a) (flatPerform f (Asked (Flush i a)))
     unfolding flushed flatPerform
-    flush-missed v = rw (not-true (holds s t a i) v) (record { agrees = record { refusal = refl; value = λ _. refl; swapped = refl; below-8 = omega arith }; sim = sim })
+    flush-missed v = rw (not-true (holds s t a i) v) (record {
+      agrees = record
+          { refusal = refl; value = λ _. refl; swapped = refl; below-8 = omega arith };
+      sim = sim;
+    })
 
     pub perform-flush : Goes s (perform s t (Asked (Flush i a))) (flatPerform f (Asked (Flush i a)))
     unfolding perform

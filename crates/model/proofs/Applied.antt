@@ -18,7 +18,8 @@ use Rattle.model.specs.Tables.{Model, stateAt, seen, wordAt, memoryAt, h
 use Rattle.model.specs.Step.{store, victim, evictsOwner, byteAfter, wordAfter, applied}
 use Rattle.protocol.proofs.Kept.{snooped-I, snooped-valid}
 use Rattle.model.proofs.Line.{After}
-use Rattle.model.proofs.Entries.{Sized, putBelow-length, putBelow-other, putBelow-same, entry-lt, entry-index, entry-inj, same-line, home-index, home-tag, seen-tag, seen-here, same-entry, same-at, holds-one}
+use Rattle.model.proofs.Entries.{Sized, putBelow-length, putBelow-other, putBelow-same, entry-lt, entry-index, entry-inj, same-line}
+use Rattle.model.proofs.Entries.{home-index, home-tag, seen-tag, seen-here, same-entry, same-at, holds-one}
 use Rattle.model.proofs.Touched.{Ready, Touched, Leaves, seen-own, seen-other, other-good, other-unowned, tidy-after}
 
 -- A store that may not happen.
@@ -113,12 +114,14 @@ module _ (s : Shape) (t : Model) (i a : ℕ) (ready : Ready s t a) (port : i < s
 
   memory-stored : Is (r .stores) → memoryAt now a ≡ w
   unfolding applied
-  memory-stored h = store-hit (r .stores) a w written a h refl (rw (store-length (evictsOwner s t i a) (victim s t i a) (wordAt s t a i) (t .memory), sized .memory) (ready .line))
+  memory-stored h = store-hit (r .stores) a w written a h refl
+      (rw (store-length (evictsOwner s t i a) (victim s t i a) (wordAt s t a i) (t .memory), sized .memory) (ready .line))
 
   memory-unstored : Is (not (r .stores)) → memoryAt now a ≡ memoryAt t a
   unfolding applied
   memory-unstored h =
-      store-miss (r .stores) a w written a (λ x. absurd (not-both x h)) ∙ store-miss (evictsOwner s t i a) (victim s t i a) (wordAt s t a i) (t .memory) a victim-other
+      store-miss (r .stores) a w written a (λ x. absurd (not-both x h)) ∙ store-miss (evictsOwner s t i a) (victim s t i a) (wordAt s t a i)
+      (t .memory) a victim-other
 
   -- Another line: its word is stored if it is the victim, and memory keeps it otherwise.
   module _ (b : ℕ) (other : b ≢ a) where
@@ -128,7 +131,8 @@ module _ (s : Shape) (t : Model) (i a : ℕ) (ready : Ready s t a) (port : i < s
 
     memory-far : indexOf s b ≢ indexOf s a → memoryAt now b ≡ memoryAt t b
     memory-far d =
-        memory-other ∙ store-miss (evictsOwner s t i a) (victim s t i a) (wordAt s t a i) (t .memory) b (λ _ e. d (ap (λ x. x % s .sets) e ∙ home-index s pos t a i))
+        memory-other ∙ store-miss (evictsOwner s t i a) (victim s t i a) (wordAt s t a i) (t .memory) b
+        (λ _ e. d (ap (λ x. x % s .sets) e ∙ home-index s pos t a i))
 
     -- The port's entry at the index is of line b.
     state-there : indexOf s b ≡ indexOf s a → getD (t .tags) (entryOf s a i) 0 ≡ tagOf s b → seen s t b i ≡ stateAt t (entryOf s a i)
@@ -178,6 +182,7 @@ module _ (s : Shape) (t : Model) (i a : ℕ) (ready : Ready s t a) (port : i < s
   leaves = record {
     sized = sized-after;
     tidy = tidy-after s pos t now i a (r .own) (snooped (r .bus)) touched (ready .line) (ready .tidy);
-    good = λ b other there. other-good s pos t now i a (r .own) (snooped (r .bus)) touched b other (memory-written b other there) (memory-left b other) (memory-far b other);
+    good = λ b other there. other-good s pos t now i a (r .own) (snooped (r .bus)) touched b other (memory-written b other there)
+        (memory-left b other) (memory-far b other);
     unowned = λ b other. other-unowned s pos t now i a (r .own) (snooped (r .bus)) touched b other;
   }

@@ -15,7 +15,8 @@ use Rattle.model.specs.declared.shape.Shape.{Shape}
 use Rattle.model.specs.Shape.{entries}
 use Rattle.model.specs.Below.{allBelow}
 use Rattle.model.specs.Tables.{Model, lentRefusal, sound, seen, wordAt, memoryAt, holds, owns, dirty}
-use Rattle.model.specs.Audit.{entriesSound, everyTwo, bothHold, equalWords, equalModes, exclusiveAlone, oneO, cleanEqual, linePasses, tablesPass, audit, Coherent}
+use Rattle.model.specs.Audit.{entriesSound, everyTwo, bothHold, equalWords, equalModes, exclusiveAlone, oneO, cleanEqual, linePasses}
+use Rattle.model.specs.Audit.{tablesPass, audit, Coherent}
 use Rattle.model.specs.Agreement.{lineWord}
 use Rattle.model.proofs.Below.{all-below, below-all, none-below, below-none, lowest-gives}
 use Rattle.protocol.proofs.Kept.{compatible}
@@ -74,7 +75,8 @@ pub audit-facts : (s : Shape) (t : Model) → Is (audit s t) → Coherent s t
 unfolding tablesPass entriesSound dirty
 audit-facts s t h =
     let ok = audit-accepts s t h in
-    let line : (a : ℕ) → a < s .lines → Is (linePasses s t a) = below-all (linePasses s t) (s .lines) (and-r (allBelow (sound s t) (entries s)) (allBelow (linePasses s t) (s .lines)) (ok .1)) in
+    let line : (a : ℕ) → a < s .lines → Is (linePasses s t a) = below-all (linePasses s t) (s .lines)
+    (and-r (allBelow (sound s t) (entries s)) (allBelow (linePasses s t) (s .lines)) (ok .1)) in
     record {
       accepted = ok .0;
       entry = below-all (sound s t) (entries s) (and-l _ (allBelow (linePasses s t) (s .lines)) (ok .1));
@@ -90,10 +92,14 @@ module _ (s : Shape) (t : Model) (facts : Coherent s t) where
   pair-holds : (a : ℕ) → a < s .lines → (p q : ℕ) → p < s .ports → q < s .ports → Is (pairTest s t a p q)
   pair-holds a l p q hp hq =
       both (both (both
-      (imp {a = bothHold s t a p q} (λ v. eq-eqb _ _ (facts .words a p q l hp hq (and-l (holds s t a p) (holds s t a q) v) (and-r (holds s t a p) (holds s t a q) v))))
-      (imp {a = bothHold s t a p q} (λ v. rw (facts .modes a p q l hp hq (and-l (holds s t a p) (holds s t a q) v) (and-r (holds s t a p) (holds s t a q) v)) (mode-itself (modeOf (seen s t a q))))))
-      (imp {a = exclusive (seen s t a p) && holds s t a q} (λ v. eq-eqb _ _ (facts .alone a p q l hp hq (and-l (exclusive (seen s t a p)) (holds s t a q) v) (and-r (exclusive (seen s t a p)) (holds s t a q) v)))))
-      (imp {a = isO (seen s t a p) && isO (seen s t a q)} (λ v. eq-eqb _ _ (facts .oneO a p q l hp hq (and-l (isO (seen s t a p)) (isO (seen s t a q)) v) (and-r (isO (seen s t a p)) (isO (seen s t a q)) v))))
+      (imp {a = bothHold s t a p q} (λ v. eq-eqb _ _ (facts .words a p q l hp hq (and-l (holds s t a p) (holds s t a q) v)
+      (and-r (holds s t a p) (holds s t a q) v))))
+      (imp {a = bothHold s t a p q} (λ v. rw (facts .modes a p q l hp hq (and-l (holds s t a p) (holds s t a q) v)
+      (and-r (holds s t a p) (holds s t a q) v)) (mode-itself (modeOf (seen s t a q))))))
+      (imp {a = exclusive (seen s t a p) && holds s t a q} (λ v. eq-eqb _ _
+      (facts .alone a p q l hp hq (and-l (exclusive (seen s t a p)) (holds s t a q) v) (and-r (exclusive (seen s t a p)) (holds s t a q) v)))))
+      (imp {a = isO (seen s t a p) && isO (seen s t a q)} (λ v. eq-eqb _ _
+      (facts .oneO a p q l hp hq (and-l (isO (seen s t a p)) (isO (seen s t a q)) v) (and-r (isO (seen s t a p)) (isO (seen s t a q)) v))))
 
   clean-holds : (a : ℕ) → a < s .lines → (p : ℕ) → p < s .ports → Is (cleanEqual s t a p)
   unfolding dirty
@@ -142,10 +148,12 @@ module _ (s : Shape) (t : Model) (facts : Coherent s t) where
     }
 
 -- And back, whatever the lines' words F are.
-module _ (s : Shape) (t : Model) (F : ℕ → ℕ) (lent : lentRefusal s t ≡ 0) (tidy : Tidy s t) (good : (a : ℕ) → a < s .lines → LineGood s t a (F a)) where
+module _ (s : Shape) (t : Model) (F : ℕ → ℕ) (lent : lentRefusal s t ≡ 0) (tidy : Tidy s t)
+    (good : (a : ℕ) → a < s .lines → LineGood s t a (F a)) where
   -- Two holders that differ are in S or O, in one mode, and not both in O.
   apart : (a p q : ℕ) → a < s .lines → p < s .ports → q < s .ports → Is (holds s t a p) → Is (holds s t a q) → p ≢ q
-      → Is (sameMode (modeOf (seen s t a p)) (modeOf (seen s t a q)) && not (exclusive (seen s t a p)) && not (exclusive (seen s t a q)) && not (isO (seen s t a p) && isO (seen s t a q)))
+      → Is (sameMode (modeOf (seen s t a p)) (modeOf (seen s t a q)) && not (exclusive (seen s t a p)) && not (exclusive (seen s t a q)) && not
+      (isO (seen s t a p) && isO (seen s t a q)))
   apart a p q l hp hq vp vq d = mp (good a l .pairs p q hp hq d) (both vp vq)
 
   -- What would be false of two ports holds of one.
@@ -159,10 +167,12 @@ module _ (s : Shape) (t : Model) (F : ℕ → ℕ) (lent : lentRefusal s t ≡ 0
     words = λ a p q l hp hq vp vq. good a l .words p hp vp ∙ sym (good a l .words q hq vq);
     modes = λ a p q l hp hq vp vq. elim (ℕ-discrete p q) [
       | yes e ↦ ap (λ p. modeOf (seen s t a p)) e
-      | no d ↦ same-mode _ _ (and-l _ (not (exclusive (seen s t a p))) (and-l _ (not (exclusive (seen s t a q))) (and-l _ (not (isO (seen s t a p) && isO (seen s t a q))) (apart a p q l hp hq vp vq d))))
+      | no d ↦ same-mode _ _ (and-l _ (not (exclusive (seen s t a p)))
+          (and-l _ (not (exclusive (seen s t a q))) (and-l _ (not (isO (seen s t a p) && isO (seen s t a q))) (apart a p q l hp hq vp vq d))))
     ];
     alone = λ a p q l hp hq x vq. one-port p q (λ d. not-both x
-        (and-r (sameMode (modeOf (seen s t a p)) (modeOf (seen s t a q))) _ (and-l _ (not (exclusive (seen s t a q))) (and-l _ (not (isO (seen s t a p) && isO (seen s t a q)))
+        (and-r (sameMode (modeOf (seen s t a p)) (modeOf (seen s t a q))) _
+        (and-l _ (not (exclusive (seen s t a q))) (and-l _ (not (isO (seen s t a p) && isO (seen s t a q)))
         (apart a p q l hp hq (exclusive-valid (seen s t a p) x) vq d)))));
     oneO = λ a p q l hp hq x y. one-port p q (λ d. not-both (both x y)
         (and-r (sameMode (modeOf (seen s t a p)) (modeOf (seen s t a q)) && not (exclusive (seen s t a p)) && not (exclusive (seen s t a q))) _

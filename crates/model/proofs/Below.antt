@@ -40,7 +40,8 @@ pub below-none : (f : ℕ → Bool) (n : ℕ) → Is (not (anyBelow f n)) → (p
 below-none f n u p k = contra (f p) (any-below f n p k) u
 
 -- The lowest number is one that passes, or there is none and no number passes.
-pub lowest-cases : (P : Lowest → Type 0) (f : ℕ → Bool) (n : ℕ) → ((p : ℕ) → p < n → Is (f p) → P (number p)) → (Is (not (anyBelow f n)) → P none)
+pub lowest-cases : (P : Lowest → Type 0) (f : ℕ → Bool) (n : ℕ) → ((p : ℕ) → p < n → Is (f p) → P (number p))
+    → (Is (not (anyBelow f n)) → P none)
     → P (lowest f n)
 unfolding lowest anyBelow orElse
 lowest-cases P f zero some nil = nil refl
@@ -49,7 +50,8 @@ lowest-cases P f (suc n) some nil =
     (λ u. by-cond P (f n) (number n) none (some n (omega arith)) (λ v. nil (nor (anyBelow f n) (f n) u v)))
 
 -- So if all that pass give w, and x is w where none passes, then what the lowest gives is w.
-pub lowest-gives : (f : ℕ → Bool) (g : ℕ → ℕ) (x w n : ℕ) → ((p : ℕ) → p < n → Is (f p) → g p ≡ w) → (Is (not (anyBelow f n)) → x ≡ w)
+pub lowest-gives : (f : ℕ → Bool) (g : ℕ → ℕ) (x w n : ℕ) → ((p : ℕ) → p < n → Is (f p) → g p ≡ w)
+    → (Is (not (anyBelow f n)) → x ≡ w)
     → atOr g x (lowest f n) ≡ w
 unfolding atOr
 lowest-gives f g x w n some nil = lowest-cases (λ l. atOr g x l ≡ w) f n some nil

@@ -42,7 +42,8 @@ accessed-few s t i a acc m =
 
 flushed-few : (s : Shape) (t : Model) (i a : ℕ) → Few (flushed s t i a)
 unfolding flushed
-flushed-few s t i a = by-cond Few (holds s t a i) _ _ (λ _. (omega arith, omega (arith, bit-le (flushRule (seen s t a i) .stores)))) (λ _. (omega arith, omega arith))
+flushed-few s t i a = by-cond Few (holds s t a i) _ _ (λ _. (omega arith, omega (arith, bit-le (flushRule (seen s t a i) .stores))))
+    (λ _. (omega arith, omega arith))
 
 perform-few : (s : Shape) (t : Model) (d : Decoded) → Few (perform s t d)
 unfolding perform
@@ -94,7 +95,8 @@ pub find-says : FindSays
 unfolding find findRefusal
 find-says s t a =
     rw (
-      number-cond (eqb (lentRefusal s t) 0) (cond (leb (s .lines) a) (finds.Refused 6) (cond (columnSound s t a) (holderOr (lowest (holds s t a) (s .ports))) (finds.Refused 8))) (finds.Refused (lentRefusal s t)),
+      number-cond (eqb (lentRefusal s t) 0) (cond (leb (s .lines) a) (finds.Refused 6)
+          (cond (columnSound s t a) (holderOr (lowest (holds s t a) (s .ports))) (finds.Refused 8))) (finds.Refused (lentRefusal s t)),
       number-cond (leb (s .lines) a) (finds.Refused 6) (cond (columnSound s t a) (holderOr (lowest (holds s t a) (s .ports))) (finds.Refused 8)),
       number-cond (columnSound s t a) (holderOr (lowest (holds s t a) (s .ports))) (finds.Refused 8),
       no-refusal (lowest (holds s t a) (s .ports)),

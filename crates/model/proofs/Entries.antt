@@ -34,7 +34,8 @@ module _ (at f : ℕ → ℕ) where
   putBelow-other (suc n) l k d =
       getD-set-other (putBelow at f n l) (at n) k (f n) 0 (d n (omega arith)) ∙ putBelow-other n l k (λ q h. d q (omega arith))
 
-  pub putBelow-same : (n : ℕ) (l : List ℕ) (p : ℕ) → p < n → ((q : ℕ) → at p ≡ at q → p ≡ q) → at p < length l → getD (putBelow at f n l) (at p) 0 ≡ f p
+  pub putBelow-same : (n : ℕ) (l : List ℕ) (p : ℕ) → p < n → ((q : ℕ) → at p ≡ at q → p ≡ q) → at p < length l
+      → getD (putBelow at f n l) (at p) 0 ≡ f p
   unfolding putBelow
   putBelow-same zero l p h inj b = absurd (omega arith)
   putBelow-same (suc n) l p h inj b =
@@ -96,7 +97,8 @@ module _ (s : Shape) (t : Model) (a p : ℕ) where
   seen-away d = rw (ne-eqb (getD (t .tags) (entryOf s a p) 0) (tagOf s a) d)
 
 pub seen-cong : (s : Shape) (t t′ : Model) (a p : ℕ)
-    → getD (t′ .tags) (entryOf s a p) 0 ≡ getD (t .tags) (entryOf s a p) 0 → getD (t′ .states) (entryOf s a p) 0 ≡ getD (t .states) (entryOf s a p) 0
+    → getD (t′ .tags) (entryOf s a p) 0 ≡ getD (t .tags) (entryOf s a p) 0
+    → getD (t′ .states) (entryOf s a p) 0 ≡ getD (t .states) (entryOf s a p) 0
     → seen s t′ a p ≡ seen s t a p
 unfolding seen
 seen-cong s t t′ a p e f = rw (e, f)

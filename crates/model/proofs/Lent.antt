@@ -42,7 +42,8 @@ pub lent-facts : (s : Shape) (t : Model) → lentRefusal s t ≡ 0 → Lent s t
 unfolding lentRefusal refusalOf
 lent-facts s t =
     by-cond (λ n. n ≡ 0 → Lent s t) (inRange s) (cond (lengthsFit s t) 0 3) 2
-    (λ r. by-cond (λ n. n ≡ 0 → Lent s t) (lengthsFit s t) 0 3 (λ z _. record { range = r; sizes = sized-facts s t z }) (λ _ e. absurd (omega (arith, e))))
+    (λ r. by-cond (λ n. n ≡ 0 → Lent s t) (lengthsFit s t) 0 3 (λ z _. record { range = r; sizes = sized-facts s t z })
+    (λ _ e. absurd (omega (arith, e))))
     (λ _ e. absurd (omega (arith, e)))
 
 pub facts-lent : (s : Shape) (t : Model) → Lent s t → lentRefusal s t ≡ 0

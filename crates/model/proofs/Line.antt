@@ -18,7 +18,8 @@ use Rattle.words.proofs.Bools.{Is, mp, imp, and-l, and-r, both, contra, by-bool
 use Rattle.protocol.proofs.States.{owner-valid}
 use Rattle.model.specs.Below.{anyBelow, lowest, atOr}
 use Rattle.model.proofs.Below.{any-below, below-none, lowest-gives}
-use Rattle.protocol.proofs.Kept.{compatible, known, pairs-kept, informed-kept, clean-kept, ownerless-kept, snooped-together, snooped-valid, snooped-I, compatible-I, compatible-sym}
+use Rattle.protocol.proofs.Kept.{compatible, known, pairs-kept, informed-kept, clean-kept, ownerless-kept, snooped-together, snooped-valid}
+use Rattle.protocol.proofs.Kept.{snooped-I, compatible-I, compatible-sym}
 
 abbrev pub Unowned : ℕ → (ℕ → State) → Type 0
 Unowned n st = (p : ℕ) → p < n → Is (not (owner (st p)))
@@ -37,7 +38,8 @@ abbrev pub ownedBy : (ℕ → State) → ℕ → Bool
 ownedBy st n = anyBelow (λ p. owner (st p)) n
 
 -- The line after rule r by port i gave it the word w. Another port's word is told only where the port still holds the line.
-pub record After (n i : ℕ) (r : Rule) (w : ℕ) (st : ℕ → State) (wd : ℕ → ℕ) (mem : ℕ) (st′ : ℕ → State) (wd′ : ℕ → ℕ) (mem′ : ℕ) : Type 0 where
+pub record After (n i : ℕ) (r : Rule) (w : ℕ) (st : ℕ → State) (wd : ℕ → ℕ) (mem : ℕ) (st′ : ℕ → State) (wd′ : ℕ → ℕ)
+    (mem′ : ℕ) : Type 0 where
   pub own : st′ i ≡ r .own
   pub others : (q : ℕ) → q < n → q ≢ i → st′ q ≡ snooped (r .bus) (st q)
   pub word : wd′ i ≡ w
@@ -50,7 +52,8 @@ module _ (n i : ℕ) (st : ℕ → State) (wd : ℕ → ℕ) (mem w : ℕ) (insi
   pub word-found : cond (valid (st i)) (wd i) (atOr wd mem (lowest (λ p. owner (st p)) n)) ≡ w
   word-found =
       by-cond (λ x. x ≡ w) (valid (st i)) _ _ (good .words i inside)
-      (λ _. lowest-gives (λ p. owner (st p)) wd mem w n (λ p h o. good .words p h (owner-valid (st p) o)) (λ u. good .clean (below-none (λ p. owner (st p)) n u)))
+      (λ _. lowest-gives (λ p. owner (st p)) wd mem w n (λ p h o. good .words p h (owner-valid (st p) o))
+      (λ u. good .clean (below-none (λ p. owner (st p)) n u)))
 
   module _ (k : Outcome) (m : Mode) where
     abbrev the-rule : Rule
@@ -124,7 +127,8 @@ module _ (n i : ℕ) (st : ℕ → State) (wd : ℕ → ℕ) (mem w : ℕ) (insi
       access-ownerless clear p h =
           elim (ℕ-discrete p i) [
             | yes e ↦ rw (e, after .own) (and-l _ _ (mp (mp (ownerless-kept k m (sharedBy st i n) (ownedBy st n) (st i) I) knows-none) clear))
-            | no d ↦ rw (after .others p h d) (and-r (not (owner (the-rule .own))) _ (mp (mp (ownerless-kept k m (sharedBy st i n) (ownedBy st n) (st i) (st p)) (knows p h d)) clear))
+            | no d ↦ rw (after .others p h d) (and-r (not (owner (the-rule .own))) _
+                (mp (mp (ownerless-kept k m (sharedBy st i n) (ownedBy st n) (st i) (st p)) (knows p h d)) clear))
           ]
 
 -- The line after port i gave it up: memory got the word if the port owned it.

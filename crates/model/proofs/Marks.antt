@@ -54,7 +54,8 @@ access-event : (f : Flat) (acc : Access) (m : Mode) (i a : ℕ) (r : FlatResult)
 unfolding eventOf
 access-event f acc Through i a r moves h = rw (eq-eqb a a refl) (moves .mark h)
 access-event f acc Back i a r moves h =
-    rw (eq-eqb a a refl, moves .answer, ← swapped-writes acc (wordIn f a)) (moves .mark h ∙ set-or (writes (effectAt acc (wordIn f a) .outcome)) (markIn f a))
+    rw (eq-eqb a a refl, moves .answer, ← swapped-writes acc (wordIn f a))
+    (moves .mark h ∙ set-or (writes (effectAt acc (wordIn f a) .outcome)) (markIn f a))
 
 -- An access of another line is no event.
 other-event : (acc : Access) (m : Mode) (i a b n : ℕ) → b ≢ a → eventOf a (Asked (ByPort acc m i b)) n ≡ neither

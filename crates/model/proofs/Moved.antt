@@ -41,7 +41,8 @@ back-only false = refl
 
 module _ (f : Flat) (m : Mode) (a : ℕ) where
   -- An access that leaves the word, and one that gives it the word w.
-  read-moves : (e : Effect) (x : FlatAnswer) → x ≡ flatAnswer 0 (e .value) (bit (e .swapped)) true → e .word ≡ wordIn f a → writes (e .outcome) ≡ false
+  read-moves : (e : Effect) (x : FlatAnswer) → x ≡ flatAnswer 0 (e .value) (bit (e .swapped)) true → e .word ≡ wordIn f a
+      → writes (e .outcome) ≡ false
       → Moved f (record { answer = x; after = flatRead f m a }) e m a
   read-moves e x ex ew ek = record {
     answer = ex;
@@ -53,7 +54,8 @@ module _ (f : Flat) (m : Mode) (a : ℕ) where
     mark-other = λ b d. getD-set-other (f .marks) a b _ false d;
   }
 
-  write-moves : (e : Effect) (x : FlatAnswer) (w : ℕ) → x ≡ flatAnswer 0 (e .value) (bit (e .swapped)) true → e .word ≡ w → writes (e .outcome) ≡ true
+  write-moves : (e : Effect) (x : FlatAnswer) (w : ℕ) → x ≡ flatAnswer 0 (e .value) (bit (e .swapped)) true → e .word ≡ w
+      → writes (e .outcome) ≡ true
       → Moved f (record { answer = x; after = flatWrite f m a w }) e m a
   write-moves e x w ex ew ek = record {
     answer = ex;
@@ -75,7 +77,8 @@ module _ (f : Flat) (m : Mode) (a : ℕ) where
       (λ h. rw (swap-fails mask compare x (wordIn f a) h, not-true (eqb (half mask (wordIn f a)) compare) h) (read-moves _ _ refl refl refl))
 
 -- Under mark 0 an access was in write through, or a read of a line that had mark 0.
-pub unmarked-access : (k : Outcome) (m : Mode) (old dirty : Bool) → (Is (not old) → Is (not dirty)) → Is (not (markAfter k m old)) → Is (isThrough m || not (writes k) && not dirty)
+pub unmarked-access : (k : Outcome) (m : Mode) (old dirty : Bool) → (Is (not old) → Is (not dirty)) → Is (not (markAfter k m old))
+    → Is (isThrough m || not (writes k) && not dirty)
 unmarked-access k Through old dirty f h = refl
 unmarked-access k Back old dirty f h = neither (writes k) old dirty f h
   where

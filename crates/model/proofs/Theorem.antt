@@ -73,7 +73,13 @@ zeroed-sim : (s : Shape) (t : Model) → Lent s t → Sim s (zeroed s t) (flatSt
 unfolding zeroed flatStart sound stateOf
 zeroed-sim s t lent = record {
   range = lent .range;
-  sized = record { memory = lent .sizes .memory; tags = length-replicate (entries s) 0; states = length-replicate (entries s) 0; words = length-replicate (entries s) 0 };
+  sized = record {
+    memory = lent .sizes .memory;
+    tags = length-replicate (entries s) 0;
+    states = length-replicate (entries s) 0;
+    words =
+        length-replicate (entries s) 0;
+  };
   tidy = record { entry = λ k h. rw (zeros (entries s) k) refl };
   flat-words = lent .sizes .memory;
   flat-marks = length-replicate (length (t .memory)) false ∙ lent .sizes .memory;

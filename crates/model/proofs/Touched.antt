@@ -42,8 +42,10 @@ pub record Touched (s : Shape) (t t′ : Model) (i a : ℕ) (own : State) (f : S
   pub tag-other : (p : ℕ) → p ≢ i → getD (t′ .tags) (entryOf s a p) 0 ≡ getD (t .tags) (entryOf s a p) 0
   pub byte-own : getD (t′ .states) (entryOf s a i) 0 ≡ code own
   pub byte-holder : (p : ℕ) → p < s .ports → p ≢ i → Is (holds s t a p) → getD (t′ .states) (entryOf s a p) 0 ≡ code (f (seen s t a p))
-  pub byte-passed : (p : ℕ) → p < s .ports → p ≢ i → Is (not (holds s t a p)) → getD (t′ .states) (entryOf s a p) 0 ≡ getD (t .states) (entryOf s a p) 0
-  pub word-passed : (p : ℕ) → p < s .ports → p ≢ i → Is (not (holds s t a p)) → getD (t′ .words) (entryOf s a p) 0 ≡ getD (t .words) (entryOf s a p) 0
+  pub byte-passed : (p : ℕ) → p < s .ports → p ≢ i → Is (not (holds s t a p))
+      → getD (t′ .states) (entryOf s a p) 0 ≡ getD (t .states) (entryOf s a p) 0
+  pub word-passed : (p : ℕ) → p < s .ports → p ≢ i → Is (not (holds s t a p))
+      → getD (t′ .words) (entryOf s a p) 0 ≡ getD (t .words) (entryOf s a p) 0
 
 -- What an order on line a leaves of the rest.
 pub record Leaves (s : Shape) (t t′ : Model) (a : ℕ) : Type 0 where
@@ -73,9 +75,12 @@ module _ (s : Shape) (pos : zero < s .sets) (t t′ : Model) (i a : ℕ) (own : 
       seen-near : (p : ℕ) → p < s .ports → p ≢ i → seen s t′ b p ≡ seen s t b p
       seen-near p h d =
           by-bool (holds s t a p)
-          (λ v. seen-away s t′ b p (λ e. tags-differ s pos a b other near (sym (seen-tag s t a p v) ∙ sym (touched .tag-other p d) ∙ sym (same-at s pos a b other near p (t′ .tags)) ∙ e))
-          ∙ sym (seen-away s t b p (λ e. tags-differ s pos a b other near (sym (seen-tag s t a p v) ∙ sym (same-at s pos a b other near p (t .tags)) ∙ e))))
-          (λ v. seen-cong s t t′ b p (rw (same-entry s pos a b other near p) (touched .tag-other p d)) (rw (same-entry s pos a b other near p) (touched .byte-passed p h d v)))
+          (λ v. seen-away s t′ b p (λ e. tags-differ s pos a b other near
+          (sym (seen-tag s t a p v) ∙ sym (touched .tag-other p d) ∙ sym (same-at s pos a b other near p (t′ .tags)) ∙ e))
+          ∙ sym (seen-away s t b p (λ e. tags-differ s pos a b other near
+          (sym (seen-tag s t a p v) ∙ sym (same-at s pos a b other near p (t .tags)) ∙ e))))
+          (λ v. seen-cong s t t′ b p (rw (same-entry s pos a b other near p) (touched .tag-other p d))
+          (rw (same-entry s pos a b other near p) (touched .byte-passed p h d v)))
 
       word-near : (p : ℕ) → p < s .ports → p ≢ i → Is (holds s t b p) → wordAt s t′ b p ≡ wordAt s t b p
       unfolding wordAt
@@ -118,13 +123,15 @@ module _ (s : Shape) (pos : zero < s .sets) (t t′ : Model) (i a : ℕ) (own : 
         ]
 
   -- Every entry is sound: one of the line has its tag, and any other stays.
-  sound-line : (k : ℕ) (x : State) → a < s .lines → getD (t′ .states) k 0 ≡ code x → getD (t′ .tags) k 0 ≡ tagOf s a → k % s .sets ≡ indexOf s a → Is (sound s t′ k)
+  sound-line : (k : ℕ) (x : State) → a < s .lines → getD (t′ .states) k 0 ≡ code x → getD (t′ .tags) k 0 ≡ tagOf s a
+      → k % s .sets ≡ indexOf s a → Is (sound s t′ k)
   unfolding sound
   sound-line k x line e g m =
       both {a = isState (stateOf (getD (t′ .states) k 0))} (rw (e, stateOf-code x) refl)
       (or-r (not (valid (stateAt t′ k))) (lt-ltb (homeAt s t′ k) (s .lines) (rw (g, m, div-add-mod' a (s .sets)) line)))
 
-  sound-cong : (k : ℕ) → getD (t′ .states) k 0 ≡ getD (t .states) k 0 → getD (t′ .tags) k 0 ≡ getD (t .tags) k 0 → Is (sound s t k) → Is (sound s t′ k)
+  sound-cong : (k : ℕ) → getD (t′ .states) k 0 ≡ getD (t .states) k 0 → getD (t′ .tags) k 0 ≡ getD (t .tags) k 0 → Is (sound s t k)
+      → Is (sound s t′ k)
   unfolding sound
   sound-cong k e g h = rw (e, g) h
 
@@ -133,7 +140,8 @@ module _ (s : Shape) (pos : zero < s .sets) (t t′ : Model) (i a : ℕ) (own : 
       elim (ℕ-discrete q i) [
         | yes e ↦ rw e (sound-line (entryOf s a i) own line (touched .byte-own) (touched .tag-own) (entry-index s pos a i))
         | no d ↦ by-bool (holds s t a q)
-            (λ v. sound-line (entryOf s a q) (f (seen s t a q)) line (touched .byte-holder q h d v) (touched .tag-other q d ∙ seen-tag s t a q v) (entry-index s pos a q))
+            (λ v. sound-line (entryOf s a q) (f (seen s t a q)) line (touched .byte-holder q h d v) (touched .tag-other q d ∙ seen-tag s t a q v)
+            (entry-index s pos a q))
             (λ v. sound-cong (entryOf s a q) (touched .byte-passed q h d v) (touched .tag-other q d) was)
       ]
 
@@ -142,7 +150,8 @@ module _ (s : Shape) (pos : zero < s .sets) (t t′ : Model) (i a : ℕ) (own : 
     entry = λ k h.
         elim (ℕ-discrete (k % s .sets) (indexOf s a)) [
           | yes e ↦ (let there : k ≡ entryOf s a (k / s .sets) = sym (div-add-mod' k (s .sets)) ∙ ap (λ x. k / s .sets * s .sets + x) e in
-              subst (λ x. Is (sound s t′ x)) (sym there) (sound-at line (k / s .sets) (div-lt-iff-lt-mul pos .1 h) (subst (λ x. Is (sound s t x)) there (was .entry k h))))
+              subst (λ x. Is (sound s t′ x)) (sym there) (sound-at line (k / s .sets) (div-lt-iff-lt-mul pos .1 h)
+              (subst (λ x. Is (sound s t x)) there (was .entry k h))))
           | no d ↦ sound-cong k (touched .bytes-apart k d) (touched .tags-apart k d) (was .entry k h)
         ];
   }

@@ -57,8 +57,11 @@ audit s t = cond (eqb (lentRefusal s t) 0) (tablesPass s t) false
 pub record Coherent (s : Shape) (t : Model) : Type 0 where
   pub accepted : lentRefusal s t ≡ 0
   pub entry : (k : ℕ) → k < entries s → sound s t k ≡ true
-  pub words : (a p q : ℕ) → a < s .lines → p < s .ports → q < s .ports → holds s t a p ≡ true → holds s t a q ≡ true → wordAt s t a p ≡ wordAt s t a q
-  pub modes : (a p q : ℕ) → a < s .lines → p < s .ports → q < s .ports → holds s t a p ≡ true → holds s t a q ≡ true → modeOf (seen s t a p) ≡ modeOf (seen s t a q)
+  pub words : (a p q : ℕ) → a < s .lines → p < s .ports → q < s .ports → holds s t a p ≡ true → holds s t a q ≡ true
+      → wordAt s t a p ≡ wordAt s t a q
+  pub modes : (a p q : ℕ) → a < s .lines → p < s .ports → q < s .ports → holds s t a p ≡ true → holds s t a q ≡ true
+      → modeOf (seen s t a p) ≡ modeOf (seen s t a q)
   pub alone : (a p q : ℕ) → a < s .lines → p < s .ports → q < s .ports → exclusive (seen s t a p) ≡ true → holds s t a q ≡ true → p ≡ q
   pub oneO : (a p q : ℕ) → a < s .lines → p < s .ports → q < s .ports → isO (seen s t a p) ≡ true → isO (seen s t a q) ≡ true → p ≡ q
-  pub clean : (a p : ℕ) → a < s .lines → p < s .ports → holds s t a p ≡ true → ((q : ℕ) → q < s .ports → owns s t a q ≡ false) → wordAt s t a p ≡ memoryAt t a
+  pub clean : (a p : ℕ) → a < s .lines → p < s .ports → holds s t a p ≡ true → ((q : ℕ) → q < s .ports → owns s t a q ≡ false)
+      → wordAt s t a p ≡ memoryAt t a

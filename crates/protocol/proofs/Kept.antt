@@ -46,7 +46,8 @@ kept q h k m shared dirty s t =
     (at-bool (λ dirty. forStates (λ s. forStates (λ t. tested q k m shared dirty s t)))
     (at-bool (λ shared. forBools (λ dirty. forStates (λ s. forStates (λ t. tested q k m shared dirty s t))))
     (at-mode (λ m. forBools (λ shared. forBools (λ dirty. forStates (λ s. forStates (λ t. tested q k m shared dirty s t)))))
-    (at-outcome (λ k. forModes (λ m. forBools (λ shared. forBools (λ dirty. forStates (λ s. forStates (λ t. tested q k m shared dirty s t)))))) h k) m) shared) dirty) s) t
+    (at-outcome (λ k. forModes (λ m. forBools (λ shared. forBools (λ dirty. forStates (λ s. forStates (λ t. tested q k m shared dirty s t))))))
+    h k) m) shared) dirty) s) t
 
 -- The two are compatible afterwards.
 abbrev pub paired : Test
@@ -88,7 +89,8 @@ together b s t = implies (compatible s t) (compatible (snooped b s) (snooped b t
 pub snooped-together : (b : Bus) (s t : State) → Is (implies (compatible s t) (compatible (snooped b s) (snooped b t)))
 unfolding snooped
 snooped-together b s t =
-    at-state (λ t. together b s t) (at-state (λ s. forStates (λ t. together b s t)) (at-bus (λ b. forStates (λ s. forStates (λ t. together b s t))) refl b) s) t
+    at-state (λ t. together b s t) (at-state (λ s. forStates (λ t. together b s t))
+    (at-bus (λ b. forStates (λ s. forStates (λ t. together b s t))) refl b) s) t
 
 pub snooped-I : (b : Bus) → snooped b I ≡ I
 unfolding snooped

@@ -20,7 +20,8 @@ use Rattle.protocol.specs.declared.rules.Coded.{Coded}
 use Rattle.words.specs.Bools.{bit}
 use Rattle.protocol.specs.State.{code, stateOf, isState, orInvalid}
 use Rattle.protocol.specs.Rules.{rule, snooped, updates}
-use Rattle.protocol.specs.Coded.{busNumber, busAt, coded, pack, nibbleAt, packed, actNumber, ownRow, outcomeNumber, modeNumber, outcomeAt, modeAt, ownRowAt, snoopRow}
+use Rattle.protocol.specs.Coded.{busNumber, busAt, coded, pack, nibbleAt, packed, actNumber, ownRow, outcomeNumber, modeNumber, outcomeAt}
+use Rattle.protocol.specs.Coded.{modeAt, ownRowAt, snoopRow}
 use Rattle.words.proofs.Bools.{Is, by-bool, by-cond}
 use Rattle.protocol.proofs.Finite.{at-bus}
 use Rattle.protocol.proofs.States.{code-small, code-stateOf}
@@ -167,7 +168,14 @@ low-command (suc (suc (suc (suc (suc n))))) h = absurd (omega arith)
 high-command : (n : ℕ) → 5 ≤ n → Is (updates (busAt n))
 unfolding updates busAt
 high-command n h =
-    rw (ne-eqb n 0 (λ e. omega arith), ne-eqb n 1 (λ e. omega arith), ne-eqb n 2 (λ e. omega arith), ne-eqb n 3 (λ e. omega arith), ne-eqb n 4 (λ e. omega arith))
+    rw (
+      ne-eqb n 0 (λ e. omega arith),
+      ne-eqb n 1 (λ e. omega arith),
+      ne-eqb n 2 (λ e. omega arith),
+      ne-eqb n 3 (λ e. omega arith),
+      ne-eqb n 4
+          (λ e. omega arith),
+    )
     (by-cond (λ b. Is (updates b)) (eqb n 5) _ _ (λ _. refl) (λ _. refl))
 
 pub updates-is : (n : ℕ) → leb 5 n ≡ updates (busAt n)

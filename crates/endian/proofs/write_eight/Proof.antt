@@ -5,7 +5,9 @@ use Rattle.endian.proofs.write_eight.Statement.{statement}
 use Rattle.endian.proofs.write_eight.Tie as tie
 
 returns : tie.Need-returns
-returns c = eight-stored _ _ _ (c .before .before .before .before .before .before .write-four .ensures) (c .before .before .write-four2 .ensures)
+returns c =
+    let after-write-four2 : tie.After-write-four2 = search in let after-write-four : tie.After-write-four = search in
+    eight-stored _ _ _ (after-write-four .write-four .ensures) (after-write-four2 .write-four2 .ensures)
 
 pub write-eight-spec : {M : Type 1} → statement M
 write-eight-spec =

@@ -7,14 +7,20 @@ use Rattle.model.proofs.shape.Shape.place.Statement.{statement}
 use Rattle.model.proofs.shape.Shape.place.Tie as tie
 
 cast-t4 : tie.Need-cast-t4
-cast-t4 c = omega (arith, tag-small (c .before .before .args .self) (c .before .before .args .a) (c .before .before .pre .0) (c .before .before .pre .1), c .before .split .ensures .0 .1)
+cast-t4 c =
+    let start : tie.Start = search in
+    omega (arith, tag-small (start .args .self) (start .args .a) (start .pre .0) (start .pre .1), c .before .split .ensures .0 .1)
 
 cast-t5 : tie.Need-cast-t5
-cast-t5 c = omega (arith, limit-small (c .before .before .before .args .self) (c .before .before .before .args .a) (c .before .before .before .pre .0), c .before .before .split .ensures .1)
+cast-t5 c =
+    let after-split : tie.After-split = search in let start : tie.Start = search in
+    omega (arith, limit-small (start .args .self) (start .args .a) (start .pre .0), after-split .split .ensures .1)
 
 returns : tie.Need-returns
 unfolding placeOf
-returns c = rw (c .before .before .split .ensures .0 .0, c .before .before .split .ensures .0 .1, c .before .before .split .ensures .1)
+returns c =
+    let after-split : tie.After-split = search in
+    rw (after-split .split .ensures .0 .0, after-split .split .ensures .0 .1, after-split .split .ensures .1)
 
 pub place-spec : {M : Type 1} → statement M
 place-spec =

@@ -9,7 +9,8 @@ use Rattle.model.proofs.shape.Shape.shift.Tie as tie
 returns-7 : tie.Need-returns-7
 returns-7 c =
     let r = (c .match .rest) in
-    let e = sets-last _ ((bounded (c .before .args .self) (c .before .pre)) .sets) (r .0 .0 .0 .0 .0 .1) (r .0 .0 .0 .0 .1) (r .0 .0 .0 .1) (r .0 .0 .1) (r .0 .1) (r .1) in
+    let e = sets-last _ ((bounded (c .before .args .self) (c .before .pre)) .sets) (r .0 .0 .0 .0 .0 .1) (r .0 .0 .0 .0 .1) (r .0 .0 .0 .1)
+    (r .0 .0 .1) (r .0 .1) (r .1) in
     (sym e, omega arith)
 
 pub shift-spec : {M : Type 1} → statement M

@@ -7,7 +7,11 @@ use Rattle.model.proofs.shape.Shape.split.Statement.{statement}
 use Rattle.model.proofs.shape.Shape.split.Tie as tie
 
 mul-index : tie.Need-mul-index
-mul-index c = omega (arith, shifted-most (c .before .args .a) (c .before .args .self .sets) (c .shift .result) (c .shift .ensures .0), (c .before .fits .a))
+mul-index c = omega (
+  arith,
+  shifted-most (c .before .args .a) (c .before .args .self .sets) (c .shift .result) (c .shift .ensures .0),
+  (c .before .fits .a),
+)
 
 sub-index : tie.Need-sub-index
 sub-index c = shifted-most (c .before .args .a) (c .before .args .self .sets) (c .shift .result) (c .shift .ensures .0)
@@ -16,7 +20,11 @@ sub-t8 : tie.Need-sub-t8
 sub-t8 c = some-sets (c .before .args .self) (c .before .pre .0)
 
 add-t9 : tie.Need-add-t9
-add-t9 c = omega (arith, (bounded (c .before .args .self) (c .before .pre .0)) .lines, (bounded (c .before .args .self) (c .before .pre .0)) .sets-most)
+add-t9 c = omega (
+  arith,
+  (bounded (c .before .args .self) (c .before .pre .0)) .lines,
+  (bounded (c .before .args .self) (c .before .pre .0)) .sets-most,
+)
 
 returns : tie.Need-returns
 returns c =
