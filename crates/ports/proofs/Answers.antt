@@ -70,7 +70,8 @@ part-sets a j xs vs h =
 
 -- A number in a part is a number of the whole.
 part-number : (w a j k : ℕ) (xs : List ℕ) → a + w * j ≡ w * k → number w (drop (w * j) (midOf a (length xs - a) xs)) ≡ number w (drop (w * k) xs)
-part-number w a j k xs e = ap (λ (l : List ℕ). number w (drop (w * j) l)) (part-to-end xs a) ∙ ap (number w) (drop-drop (w * j) a xs ∙ ap (λ (n : ℕ). drop n xs) e)
+part-number w a j k xs e = ap (λ (l : List ℕ). number w (drop (w * j) l)) (part-to-end xs a) ∙ ap (number w)
+    (drop-drop (w * j) a xs ∙ ap (λ (n : ℕ). drop n xs) e)
 
 -- A holder's answer from its own part is its answer in the whole.
 module _ {g h d : List ℕ} (c : Command) (w tag from index : ℕ) (room : Room g h d (from + index)) (holder : Holder tag g h (from + index)) where
@@ -84,11 +85,13 @@ module _ {g h d : List ℕ} (c : Command) (w tag from index : ℕ) (room : Room 
   pub tags-part : {g' : List ℕ} → g' ≡ midOf (4 * from) (length g - 4 * from) g → putMid (4 * from) (length g - 4 * from) g g' ≡ g
   tags-part e = rw e (put-same (4 * from) (length g - 4 * from) g)
 
-  pub states-part : {h' : List ℕ} → h' ≡ statesAnswered c index (midOf from (length h - from) h) → putMid from (length h - from) h h' ≡ statesAnswered c (from + index) h
+  pub states-part : {h' : List ℕ} → h' ≡ statesAnswered c index (midOf from (length h - from) h)
+      → putMid from (length h - from) h h' ≡ statesAnswered c (from + index) h
   unfolding statesAnswered
   states-part e = rw e (part-set from index h (rw (part-get from index h)) (room .in-states))
 
-  pub words-part : {d' : List ℕ} → d' ≡ wordsAnswered c w index (midOf (8 * from) (length d - 8 * from) d) → putMid (8 * from) (length d - 8 * from) d d' ≡ wordsAnswered c w (from + index) d
+  pub words-part : {d' : List ℕ} → d' ≡ wordsAnswered c w index (midOf (8 * from) (length d - 8 * from) d)
+      → putMid (8 * from) (length d - 8 * from) d d' ≡ wordsAnswered c w (from + index) d
   unfolding wordsAnswered
   words-part e =
       let at-k : 8 * from + 8 * index ≡ 8 * (from + index) = omega arith in
@@ -118,8 +121,10 @@ module _ (s : Shape) (pos : zero < s .sets) (t : Model) (i a : ℕ) (b : Bus) (w
   unfolding answered putBelow
   skip-one p h =
       model-eq refl refl
-      (ap (set (putBelow (entryOf s a) (byteAnswered s t i a b w) p (t .states)) (entryOf s a p)) (byte-kept p h ∙ sym (still p (byteAnswered s t i a b w) (t .states))) ∙ set-getD _ (entryOf s a p) 0)
-      (ap (set (putBelow (entryOf s a) (wordAnswered s t i a b w) p (t .words)) (entryOf s a p)) (word-kept p h ∙ sym (still p (wordAnswered s t i a b w) (t .words))) ∙ set-getD _ (entryOf s a p) 0)
+      (ap (set (putBelow (entryOf s a) (byteAnswered s t i a b w) p (t .states)) (entryOf s a p))
+      (byte-kept p h ∙ sym (still p (byteAnswered s t i a b w) (t .states))) ∙ set-getD _ (entryOf s a p) 0)
+      (ap (set (putBelow (entryOf s a) (wordAnswered s t i a b w) p (t .words)) (entryOf s a p))
+      (word-kept p h ∙ sym (still p (wordAnswered s t i a b w) (t .words))) ∙ set-getD _ (entryOf s a p) 0)
 
   skip : (p z : ℕ) → ((r : ℕ) → r < z → Is (not (other s t i a (p + r)))) → answered s t i a b w (p + z) ≡ answered s t i a b w p
   skip p zero u = ap (answered s t i a b w) (add-zero p)
@@ -131,7 +136,8 @@ module _ (s : Shape) (pos : zero < s .sets) (t : Model) (i a w : ℕ) (fine : Al
   unfolding byteAnswered
   quiet-byte p q =
       by-bool (other s t i a p)
-      (λ h. rw (h, quiet-same (seen s t a p), seen-here s t a p (seen-tag s t a p (and-r (not (eqb p i)) _ h))) (code-stateOf (getD (t .states) (entryOf s a p) 0) (fine p q)))
+      (λ h. rw (h, quiet-same (seen s t a p), seen-here s t a p (seen-tag s t a p (and-r (not (eqb p i)) _ h)))
+      (code-stateOf (getD (t .states) (entryOf s a p) 0) (fine p q)))
       (λ h. rw (not-true (other s t i a p) h))
 
   quiet-word : (p : ℕ) → p < s .ports → wordAnswered s t i a Quiet w p ≡ getD (t .words) (entryOf s a p) 0
@@ -156,7 +162,8 @@ pub record Telling (l : Line) (bus w i : ℕ) (g₀ h₀ d₀ g h d : List ℕ) 
   pub all : p + count ≡ l .shape .ports
   pub mask : rest ≡ portsFrom (other (l .shape) (tablesIn (l .shape) g₀ h₀ d₀) i (l .number)) p count
 
-module _ {l : Line} (v : Placed l) {g₀ h₀ d₀ : List ℕ} (bus w i : ℕ) (f₀ : Filled (l .shape) g₀ h₀ d₀) (fine : AllStates (l .shape) (l .number) h₀) where
+module _ {l : Line} (v : Placed l) {g₀ h₀ d₀ : List ℕ} (bus w i : ℕ) (f₀ : Filled (l .shape) g₀ h₀ d₀)
+    (fine : AllStates (l .shape) (l .number) h₀) where
   abbrev s : Shape
   s = l .shape
 
@@ -179,7 +186,8 @@ module _ {l : Line} (v : Placed l) {g₀ h₀ d₀ : List ℕ} (bus w i : ℕ) (
   module _ {g h d : List ℕ} {rest p : ℕ} (u : Telling l bus w i g₀ h₀ d₀ g h d rest p) where
     pub telling-done : rest ≡ 0 → tablesIn s g h d ≡ after (s .ports)
     telling-done z =
-        u .now ∙ sym (skip s (some v) t₀ i a (busAt bus) w p (u .count) (λ r k. not-is (test (p + r)) (λ y. absurd (omega (arith, z, u .mask, mask-some test p (u .count) r k y)))))
+        u .now ∙ sym (skip s (some v) t₀ i a (busAt bus) w p (u .count)
+        (λ r k. not-is (test (p + r)) (λ y. absurd (omega (arith, z, u .mask, mask-some test p (u .count) r k y)))))
         ∙ ap after (u .all)
 
     module _ (left : rest ≡ 0 → ⊥) where
@@ -234,7 +242,11 @@ module _ {l : Line} (v : Placed l) {g₀ h₀ d₀ : List ℕ} (bus w i : ℕ) (
       next-holder = rw (at-k, tag-is v) (record { same = tag-there; held = rw (byte-there, ← state-there) held })
 
       pub next-room : Room g h d k
-      next-room = rw at-k (record { in-tags = omega (arith, in-k, u .filled .tags-fit); in-states = omega (arith, in-k, u .filled .states-fit); in-words = omega (arith, in-k, u .filled .words-fit) })
+      next-room = rw at-k (record {
+        in-tags = omega (arith, in-k, u .filled .tags-fit);
+        in-states = omega (arith, in-k, u .filled .states-fit);
+        in-words = omega (arith, in-k, u .filled .words-fit);
+      })
 
       -- It answers.
       byte-is : nibbleAt (snoopRow bus) (getD h (entryOf s a (p + z)) 0 % 16) ≡ byteAnswered s t₀ i a (busAt bus) w (p + z)
@@ -250,21 +262,26 @@ module _ {l : Line} (v : Placed l) {g₀ h₀ d₀ : List ℕ} (bus w i : ℕ) (
       words-put fits true = set-numbers 8 (entries s) (entryOf s a (p + z)) w d in-k (omega arith) (omega (arith, u .filled .words-fit))
       words-put fits false = sym (set-getD (numbers 8 (entries s) d) (entryOf s a (p + z)) 0)
 
-      now-answered : w < 2 ^ 64 → {g' h' d' : List ℕ} {c : Command} → c ≡ commandOf bus → g' ≡ g → h' ≡ statesAnswered c k h → d' ≡ wordsAnswered c w k d
+      now-answered : w < 2 ^ 64 → {g' h' d' : List ℕ} {c : Command} → c ≡ commandOf bus → g' ≡ g → h' ≡ statesAnswered c k h
+          → d' ≡ wordsAnswered c w k d
           → tablesIn s g' h' d' ≡ after (suc (p + z))
       unfolding tablesIn answered putBelow statesAnswered wordsAnswered commandOf
       now-answered fits ec eg eh ed =
           rw (eg, eh, ed, ec, at-k)
           (model-eq refl (ap (λ (t : Model). t .tags) reached)
-          (ap (set h (entryOf s a (p + z))) byte-is ∙ ap (λ (t : Model). set (t .states) (entryOf s a (p + z)) (byteAnswered s t₀ i a (busAt bus) w (p + z))) reached)
+          (ap (set h (entryOf s a (p + z))) byte-is ∙ ap (λ (t : Model). set (t .states) (entryOf s a (p + z))
+          (byteAnswered s t₀ i a (busAt bus) w (p + z))) reached)
           (words-put fits (updates (busAt bus)) ∙ ap (set (numbers 8 (entries s) d) (entryOf s a (p + z))) word-is
           ∙ ap (λ (t : Model). set (t .words) (entryOf s a (p + z)) (wordAnswered s t₀ i a (busAt bus) w (p + z))) reached))
 
-      pub telling-more : w < 2 ^ 64 → {g' h' d' : List ℕ} → length g' ≡ length g → length h' ≡ length h → length d' ≡ length d → {c : Command} → c ≡ commandOf bus
-          → (g' ≡ g) × ((h' ≡ statesAnswered c k h) × (d' ≡ wordsAnswered c w k d)) → Telling l bus w i g₀ h₀ d₀ g' h' d' (rest / 2 ^ z / 2) (p + z + 1)
+      pub telling-more : w < 2 ^ 64 → {g' h' d' : List ℕ} → length g' ≡ length g → length h' ≡ length h → length d' ≡ length d
+          → {c : Command} → c ≡ commandOf bus
+          → (g' ≡ g) × ((h' ≡ statesAnswered c k h) × (d' ≡ wordsAnswered c w k d))
+          → Telling l bus w i g₀ h₀ d₀ g' h' d' (rest / 2 ^ z / 2) (p + z + 1)
       telling-more fits {g'} {h'} {d'} eg eh ed ec e =
           let n : ℕ = u .count - z - 1 in
-          let m : rest / 2 ^ z ≡ portsFrom test (p + z) (suc n) = ap (λ (x : ℕ). x / 2 ^ z) (u .mask) ∙ mask-drop test p z (suc n) (omega (arith, first .below)) refl in
+          let m : rest / 2 ^ z ≡ portsFrom test (p + z) (suc n) = ap (λ (x : ℕ). x / 2 ^ z) (u .mask) ∙ mask-drop test p z (suc n)
+          (omega (arith, first .below)) refl in
           record {
             filled = refilled (u .filled) eg eh ed;
             now = now-answered fits ec (e .0) (e .1 .0) (e .1 .1) ∙ ap after (sym (add-one (p + z)));

@@ -16,10 +16,12 @@ pub model-eq : {m m' a a' b b' c c' : List ℕ} → m ≡ m' → a ≡ a' → b 
 model-eq o p q r = rw (o, p, q, r)
 
 -- No call changes the length of a slice.
-pub refilled : {s : Shape} {g h d g' h' d' : List ℕ} → Filled s g h d → length g' ≡ length g → length h' ≡ length h → length d' ≡ length d → Filled s g' h' d'
+pub refilled : {s : Shape} {g h d g' h' d' : List ℕ} → Filled s g h d → length g' ≡ length g → length h' ≡ length h
+    → length d' ≡ length d → Filled s g' h' d'
 refilled f a b c = record { tags-fit = a ∙ f .tags-fit; states-fit = b ∙ f .states-fit; words-fit = c ∙ f .words-fit }
 
-pub refitted : {s : Shape} {b : Bytes} (b' : Bytes) → Fitting s b → length (b' .memory) ≡ length (b .memory) → length (b' .tags) ≡ length (b .tags) → length (b' .states) ≡ length (b .states)
+pub refitted : {s : Shape} {b : Bytes} (b' : Bytes) → Fitting s b → length (b' .memory) ≡ length (b .memory)
+    → length (b' .tags) ≡ length (b .tags) → length (b' .states) ≡ length (b .states)
     → length (b' .words) ≡ length (b .words) → Fitting s b'
 refitted b' f em eg eh ed = record { range = f .range; memory-fits = em ∙ f .memory-fits; filled = refilled (f .filled) eg eh ed }
 
@@ -27,7 +29,16 @@ module _ {s : Shape} {b : Bytes} (f : Fitting s b) where
   -- The model that fitting bytes hold is accepted.
   pub lent : lentRefusal s (modelIn s b) ≡ 0
   unfolding modelIn
-  lent = facts-lent s (modelIn s b) (record { range = f .range; sizes = record { memory = length-numbers 8 (s .lines) (b .memory); tags = length-numbers 4 (entries s) (b .tags); states = f .filled .states-fit; words = length-numbers 8 (entries s) (b .words) } })
+  lent = facts-lent s (modelIn s b) (record {
+    range = f .range;
+    sizes = record {
+      memory = length-numbers 8 (s .lines) (b .memory);
+      tags = length-numbers 4 (entries s) (b .tags);
+      states = f .filled .states-fit;
+      words =
+          length-numbers 8 (entries s) (b .words);
+    };
+  })
 
   pub in-memory : {a : ℕ} → a < s .lines → 8 * a + 8 ≤ length (b .memory)
   in-memory h = omega (arith, f .memory-fits)

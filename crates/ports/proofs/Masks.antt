@@ -70,7 +70,11 @@ pub mask-none : (f : ℕ → Bool) (a n : ℕ) → ((q : ℕ) → q < n → Is (
 unfolding portsFrom
 mask-none f a zero h = refl
 mask-none f a (suc n) h =
-    rw (not-true (f a) (moved (λ x. not (f x)) (omega arith) (h 0 (omega arith))), mask-none f (suc a) n (λ q l. moved (λ x. not (f x)) (omega arith) (h (suc q) (omega arith))))
+    rw (
+      not-true (f a) (moved (λ x. not (f x)) (omega arith) (h 0 (omega arith))),
+      mask-none f (suc a) n
+          (λ q l. moved (λ x. not (f x)) (omega arith) (h (suc q) (omega arith))),
+    )
 
 pub mask-some : (f : ℕ → Bool) (a n q : ℕ) → q < n → Is (f (a + q)) → 0 < portsFrom f a n
 unfolding portsFrom
@@ -135,7 +139,8 @@ mask-ext f g a (suc n) h =
     shifted a q = omega arith
 
 -- The mask without port i.
-pub mask-without : (f : ℕ → Bool) (a n j i : ℕ) → i ≡ a + j → j < n → portsFrom f a n ≡ portsFrom (λ p. not (eqb p i) && f p) a n + bit (f i) * 2 ^ j
+pub mask-without : (f : ℕ → Bool) (a n j i : ℕ) → i ≡ a + j → j < n
+    → portsFrom f a n ≡ portsFrom (λ p. not (eqb p i) && f p) a n + bit (f i) * 2 ^ j
 unfolding portsFrom
 mask-without f a zero j i e l = absurd (omega arith)
 mask-without f a (suc n) zero i e l =

@@ -53,7 +53,8 @@ module _ {l : Line} (v : Placed l) where
   tag-below =
       let a = l .number in
       let s = l .shape in
-      rw (tag-is, limit-at) (ltb-true _ _ (sym (limit-is (a / s .sets) (s .sets) (a % s .sets) (s .lines) (mod-lt a some)) ∙ rw (div-add-mod' a (s .sets)) (lt-ltb a (s .lines) (v .below))))
+      rw (tag-is, limit-at) (ltb-true _ _ (sym (limit-is (a / s .sets) (s .sets) (a % s .sets) (s .lines) (mod-lt a some)) ∙ rw
+      (div-add-mod' a (s .sets)) (lt-ltb a (s .lines) (v .below))))
 
   module _ (p : ℕ) where
     pub number-is : p * l .shape .sets + l .place .index ≡ entryOf (l .shape) (l .number) p

@@ -25,7 +25,8 @@ module _ (at : ℕ → ℕ) (inj : (p q : ℕ) → at p ≡ at q → p ≡ q) wh
   put-id f (suc n) l h = rw (put-id f n l (λ p q. h p (omega arith)), h n (omega arith)) (set-getD l (at n) 0)
 
   -- Entry i put again at the end.
-  put-last : (f g : ℕ → ℕ) (n : ℕ) (l : List ℕ) (i : ℕ) → i < n → ((p : ℕ) → p < n → p ≢ i → f p ≡ g p) → set (putBelow at f n l) (at i) (g i) ≡ putBelow at g n l
+  put-last : (f g : ℕ → ℕ) (n : ℕ) (l : List ℕ) (i : ℕ) → i < n → ((p : ℕ) → p < n → p ≢ i → f p ≡ g p)
+      → set (putBelow at f n l) (at i) (g i) ≡ putBelow at g n l
   unfolding putBelow
   put-last f g zero l i h e = absurd (omega arith)
   put-last f g (suc n) l i h e =

@@ -61,7 +61,17 @@ unfolding stateOf
 clamped b =
     by-bool (ltb b 16) (λ h. rw h)
     (λ h. let k : 16 ≤ b = ltb-false b 16 (not-true (ltb b 16) h) in
-    rw (not-true (ltb b 16) h, apart k 0 (omega arith), apart k 1 (omega arith), apart k 2 (omega arith), apart k 9 (omega arith), apart k 10 (omega arith), apart k 11 (omega arith), apart k 12 (omega arith)))
+    rw (
+      not-true (ltb b 16) h,
+      apart k 0 (omega arith),
+      apart k 1 (omega arith),
+      apart k 2 (omega arith),
+      apart k 9 (omega arith),
+      apart k 10
+          (omega arith),
+      apart k 11 (omega arith),
+      apart k 12 (omega arith),
+    ))
   where
     apart : {b : ℕ} → 16 ≤ b → (n : ℕ) → n < 16 → eqb b n ≡ false
     apart {b} h n l = ne-eqb b n (λ e. absurd (omega arith))
@@ -81,9 +91,11 @@ lanes-are x t b there eh ea er en =
     let k : ℕ = cond (ltb b 16) b 15 in
     rw (en, er, ea, eh, state-row-is, ← clamped b)
     (by-bool (eqb t (x .tag))
-    (λ h. let near : ltb t (x .limit) ≡ true = rw (eqb-true t (x .tag) h) (lt-ltb (x .tag) (x .limit) there) in rw (near, h) (right-row true true row-here k (in-row b)))
+    (λ h. let near : ltb t (x .limit) ≡ true = rw (eqb-true t (x .tag) h) (lt-ltb (x .tag) (x .limit) there) in rw (near, h)
+    (right-row true true row-here k (in-row b)))
     (λ h. rw (not-true (eqb t (x .tag)) h)
-    (by-bool (ltb t (x .limit)) (λ n. rw n (right-row false true row-near k (in-row b))) (λ n. rw (not-true (ltb t (x .limit)) n) (right-row false false row-far k (in-row b))))))
+    (by-bool (ltb t (x .limit)) (λ n. rw n (right-row false true row-near k (in-row b)))
+    (λ n. rw (not-true (ltb t (x .limit)) n) (right-row false false row-far k (in-row b))))))
 
 -- The row as a number, by which the sums and products made from it fit their type.
 pub row-fits : {here : ℕ} → here ≡ stateRow → here ≡ 0xE1F818001E06
@@ -149,17 +161,33 @@ module _ (l : Line) (v : Placed l) (g h d : List ℕ) where
   -- The sum fits its type.
   pub surveyed-fits : {sum p : ℕ} → Surveyed s t a sum p → sum < 2199023255552
   surveyed-fits {sum} {p} u =
-      omega (arith, u .now, lane-lt (holds s t a) p (u .count) (u .all), lane-lt (owns s t a) p (u .count) (u .all), lane-lt (unsound s t a) p (u .count) (u .all))
+      omega (
+        arith,
+        u .now,
+        lane-lt (holds s t a) p (u .count) (u .all),
+        lane-lt (owns s t a) p (u .count) (u .all),
+        lane-lt (unsound s t a) p
+            (u .count) (u .all),
+      )
 
   abbrev at : ℕ → ℕ
   at p = p * l .shape .sets + l .place .index
 
-  look-lanes : (p : ℕ) → lookLanes (l .place) (getD (numbers 4 (entries s) g) (at p) 0) (getD h (at p) 0) ≡ lanes (bit (holds s t a p)) (bit (owns s t a p)) (bit (unsound s t a p))
+  look-lanes : (p : ℕ) → lookLanes (l .place) (getD (numbers 4 (entries s) g) (at p) 0) (getD h (at p) 0) ≡ lanes (bit (holds s t a p))
+      (bit (owns s t a p)) (bit (unsound s t a p))
   unfolding lookLanes seen sound tablesIn
   look-lanes p =
-      rw (index-is v, tag-is v, limit-at v, entry-index s (some v) a p, limit-is (getD (numbers 4 (entries s) g) (entryOf s a p) 0) (s .sets) (indexOf s a) (s .lines) (mod-lt a (some v)))
+      rw (
+        index-is v,
+        tag-is v,
+        limit-at v,
+        entry-index s (some v) a p,
+        limit-is (getD (numbers 4 (entries s) g) (entryOf s a p) 0) (s .sets)
+            (indexOf s a) (s .lines) (mod-lt a (some v)),
+      )
 
-  pub surveyed-more : {sum p q x y : ℕ} → Surveyed s t a sum p → q + 1 ≡ p → x ≡ lookLanes (l .place) (getD (numbers 4 (entries s) g) (at q) 0) (getD h (at q) 0) → y ≡ 2 * sum + x → Surveyed s t a y q
+  pub surveyed-more : {sum p q x y : ℕ} → Surveyed s t a sum p → q + 1 ≡ p
+      → x ≡ lookLanes (l .place) (getD (numbers 4 (entries s) g) (at q) 0) (getD h (at q) 0) → y ≡ 2 * sum + x → Surveyed s t a y q
   unfolding portsFrom
   surveyed-more {sum} {p} {q} {x} u ep ex ey =
       let e : p ≡ suc q = omega arith in
@@ -184,8 +212,10 @@ module _ (l : Line) (v : Placed l) (g h d : List ℕ) where
       let now : sum ≡ lanesFrom s t a 0 (s .ports) = u .now ∙ ap (λ (x : ℕ). lanesFrom s t a x (u .count)) e ∙ ap (lanesFrom s t a 0) n in
       let la = lane-lt (holds s t a) 0 (s .ports) (omega arith) in
       let lb = lane-lt (owns s t a) 0 (s .ports) (omega arith) in
-      let holders : sum % 65536 ≡ portsFrom (holds s t a) 0 (s .ports) = rw now (lane-one _ (portsFrom (owns s t a) 0 (s .ports)) (portsFrom (unsound s t a) 0 (s .ports)) (omega (arith, la))) in
-      let owners : sum / 65536 % 65536 ≡ portsFrom (owns s t a) 0 (s .ports) = rw now (lane-two (portsFrom (holds s t a) 0 (s .ports)) _ (portsFrom (unsound s t a) 0 (s .ports)) (omega (arith, la)) (omega (arith, lb))) in
+      let holders : sum % 65536 ≡ portsFrom (holds s t a) 0 (s .ports) = rw now
+      (lane-one _ (portsFrom (owns s t a) 0 (s .ports)) (portsFrom (unsound s t a) 0 (s .ports)) (omega (arith, la))) in
+      let owners : sum / 65536 % 65536 ≡ portsFrom (owns s t a) 0 (s .ports) = rw now
+      (lane-two (portsFrom (holds s t a) 0 (s .ports)) _ (portsFrom (unsound s t a) 0 (s .ports)) (omega (arith, la)) (omega (arith, lb))) in
       let fine : ltb sum 4294967296 ≡ allBelow (soundBy s t a) (s .ports) = by-bool (allBelow (soundBy s t a) (s .ports))
       (λ y. rw y (lt-ltb sum 4294967296 (omega (arith, now, la, lb, empty y))))
       (λ y. rw (not-true (allBelow (soundBy s t a) (s .ports)) y) (le-ltb sum 4294967296 (omega (arith, now, filled y))))

@@ -7,7 +7,9 @@ use Rattle.ports.proofs.bus.answer.Tie as tie
 
 returns : tie.Need-returns
 unfolding statesAnswered wordsAnswered
-returns c = (refl, (rw (c .before .before .before .before .before .nibble .ensures .0), rw (c .before .before .before .before .if1 .taken, c .before .before .put-word .ensures)))
+returns c =
+    let after-put-word : tie.After-put-word = search in let then-1 : tie.Then1 = search in let after-nibble : tie.After-nibble = search in
+    (refl, (rw (after-nibble .nibble .ensures .0), rw (then-1 .if1 .taken, after-put-word .put-word .ensures)))
 
 returns-2 : tie.Need-returns-2
 unfolding statesAnswered wordsAnswered

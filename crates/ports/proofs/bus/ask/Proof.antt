@@ -5,7 +5,9 @@ use Rattle.ports.proofs.bus.ask.Statement.{statement}
 use Rattle.ports.proofs.bus.ask.Tie as tie
 
 returns-2 : tie.Need-returns-2
-returns-2 c = unasked (c .before .before .before .before .pre .1 .0) _ _ _ (c .before .before .before .before .pre .0) (c .before .before .before .before .pre .1 .1 .0) (c .before .before .before .before .pre .1 .1 .1 .0) (c .if1 .left)
+returns-2 c =
+    let start : tie.Start = search in
+    unasked (start .pre .1 .0) _ _ _ (start .pre .0) (start .pre .1 .1 .0) (start .pre .1 .1 .1 .0) (c .if1 .left)
 
 pub ask-spec : {M : Type 1} → statement M
 ask-spec =

@@ -6,7 +6,9 @@ use Rattle.ports.proofs.entry.entry_at.Statement.{statement}
 use Rattle.ports.proofs.entry.entry_at.Tie as tie
 
 returns : tie.Need-returns
-returns c = entry-is (c .before .before .before .before .before .before .pre .0) (c .before .before .before .before .before .before .pre .1) (c .before .before .tag-at .ensures) refl (c .word-at .ensures)
+returns c =
+    let after-tag-at : tie.After-tag-at = search in let start : tie.Start = search in
+    entry-is (start .pre .0) (start .pre .1) (after-tag-at .tag-at .ensures) refl (c .word-at .ensures)
 
 pub entry-at-spec : {M : Type 1} → statement M
 entry-at-spec =

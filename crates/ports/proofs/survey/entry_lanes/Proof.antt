@@ -5,10 +5,12 @@ use Rattle.ports.proofs.survey.entry_lanes.Statement.{statement}
 use Rattle.ports.proofs.survey.entry_lanes.Tie as tie
 
 lanes-at-requires : tie.Need-lanes-at-requires
-lanes-at-requires c κs = tag-below (c .before .before .before .before .before .pre .1 .0)
+lanes-at-requires c κs = let start : tie.Start = search in tag-below (start .pre .1 .0)
 
 returns : tie.Need-returns
-returns c = rw (c .lanes-at .ensures, ← tag-read (c .before .before .before .before .before .before .pre .0) (c .before .before .before .before .before .before .pre .1 .1) (c .before .before .tag-at .ensures))
+returns c =
+    let after-tag-at : tie.After-tag-at = search in let start : tie.Start = search in
+    rw (c .lanes-at .ensures, ← tag-read (start .pre .0) (start .pre .1 .1) (after-tag-at .tag-at .ensures))
 
 pub entry-lanes-spec : {M : Type 1} → statement M
 entry-lanes-spec =

@@ -15,10 +15,13 @@ add-far : tie.Need-add-far
 add-far c = omega (arith, row-fits (c .state-row .ensures))
 
 shr-x : tie.Need-shr-x
-shr-x c = omega (arith, shift-below (c .before .before .before .before .before .before .args .b) (c .choose-byte .ensures))
+shr-x c = let start : tie.Start = search in omega (arith, shift-below (start .args .b) (c .choose-byte .ensures))
 
 returns : tie.Need-returns
-returns c = lanes-are _ _ (c .before .before .before .before .before .before .args .b) (c .before .before .before .before .before .before .pre) (c .before .before .before .before .before .state-row .ensures) (c .before .before .before .choose-word .ensures) (c .before .choose-word2 .ensures) (c .choose-byte .ensures)
+returns c =
+    let after-choose-word : tie.After-choose-word = search in let after-state-row : tie.After-state-row = search in let start : tie.Start = search in
+    lanes-are _ _ (start .args .b) (start .pre) (after-state-row .state-row .ensures) (after-choose-word .choose-word .ensures)
+    (c .before .choose-word2 .ensures) (c .choose-byte .ensures)
 
 pub lanes-at-spec : {M : Type 1} → statement M
 lanes-at-spec =

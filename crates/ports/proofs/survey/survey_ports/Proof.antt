@@ -15,34 +15,46 @@ abbrev μ-loop : tie.MeasureT-loop
 μ-loop tags states words line sets index sum₀ p₀ sum p = p
 
 loop-holds : tie.Need-loop-holds Inv-loop μ-loop
-loop-holds c = surveyed-none _ (c .before .before .before .pre .1) _ _ _
+loop-holds c = let start : tie.Start Inv-loop μ-loop = search in surveyed-none _ (start .pre .1) _ _ _
 
 sub-p : tie.Need-sub-p Inv-loop μ-loop
 sub-p c = omega (arith, c .loop-test .taken)
 
 mul-k : tie.Need-mul-k Inv-loop μ-loop
-mul-k c = omega (arith, small (c .before .before .before .before .before .pre .1) (c .before .loop .p - 1) (omega (arith, c .loop-test .taken, c .before .loop .inv .all)))
+mul-k c =
+    let start : tie.Start Inv-loop μ-loop = search in
+    omega (arith, small (start .pre .1) (c .before .loop .p - 1) (omega (arith, c .loop-test .taken, c .before .loop .inv .all)))
 
 add-k : tie.Need-add-k Inv-loop μ-loop
-add-k c = omega (arith, small (c .before .before .before .before .before .pre .1) (c .before .loop .p - 1) (omega (arith, c .loop-test .taken, c .before .loop .inv .all)))
+add-k c =
+    let start : tie.Start Inv-loop μ-loop = search in
+    omega (arith, small (start .pre .1) (c .before .loop .p - 1) (omega (arith, c .loop-test .taken, c .before .loop .inv .all)))
 
 entry-lanes-requires : tie.Need-entry-lanes-requires Inv-loop μ-loop
-entry-lanes-requires c κs = (c .before .before .before .before .before .pre .0, (c .before .before .before .before .before .pre .1, there (c .before .before .before .before .before .pre .1) (c .before .loop .p - 1) (omega (arith, c .loop-test .taken, c .before .loop .inv .all))))
+entry-lanes-requires c κs =
+    let start : tie.Start Inv-loop μ-loop = search in
+    (start .pre .0, (start .pre .1, there (start .pre .1) (c .before .loop .p - 1) (omega (arith, c .loop-test .taken, c .before .loop .inv .all))))
 
 mul-sum : tie.Need-mul-sum Inv-loop μ-loop
-mul-sum c = omega (arith, surveyed-fits _ (c .before .before .before .before .before .before .pre .1) _ _ _ (c .before .before .loop .inv))
+mul-sum c =
+    let at-loop : tie.At-loop Inv-loop μ-loop = search in let start : tie.Start Inv-loop μ-loop = search in
+    omega (arith, surveyed-fits _ (start .pre .1) _ _ _ (at-loop .loop .inv))
 
 add-sum : tie.Need-add-sum Inv-loop μ-loop
-add-sum c = omega (arith, surveyed-fits _ (c .before .before .before .before .before .before .pre .1) _ _ _ (c .before .before .loop .inv), look-fits _ _ _ (c .entry-lanes .ensures))
+add-sum c =
+    let at-loop : tie.At-loop Inv-loop μ-loop = search in let start : tie.Start Inv-loop μ-loop = search in
+    omega (arith, surveyed-fits _ (start .pre .1) _ _ _ (at-loop .loop .inv), look-fits _ _ _ (c .entry-lanes .ensures))
 
 loop-less : tie.Need-loop-less Inv-loop μ-loop
 loop-less c = omega (arith, c .before .loop-test .taken)
 
 loop-again : tie.Need-loop-again Inv-loop μ-loop
-loop-again c = surveyed-more _ (c .before .before .before .before .before .before .pre .1) _ _ _ (c .before .before .loop .inv) (omega (arith, c .before .loop-test .taken)) (c .entry-lanes .ensures) refl
+loop-again c =
+    let at-loop : tie.At-loop Inv-loop μ-loop = search in let start : tie.Start Inv-loop μ-loop = search in
+    surveyed-more _ (start .pre .1) _ _ _ (at-loop .loop .inv) (omega (arith, c .before .loop-test .taken)) (c .entry-lanes .ensures) refl
 
 returns : tie.Need-returns Inv-loop μ-loop
-returns c = surveyed-done _ (c .before .before .before .before .before .pre .1) _ _ _ (c .before .loop .inv) (c .loop-test .left)
+returns c = let start : tie.Start Inv-loop μ-loop = search in surveyed-done _ (start .pre .1) _ _ _ (c .before .loop .inv) (c .loop-test .left)
 
 pub survey-ports-spec : {M : Type 1} → statement M
 survey-ports-spec =
