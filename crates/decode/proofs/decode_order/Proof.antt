@@ -6,7 +6,9 @@ use Rattle.decode.proofs.decode_order.Tie as tie
 
 returns : tie.Need-returns
 unfolding decode
-returns c = rw (c .checked-call .ensures, c .before .call-of .ensures, c .before .before .mode-in .ensures)
+returns c =
+    let after-mode-in : tie.After-mode-in = search in
+    rw (c .checked-call .ensures, c .before .call-of .ensures, after-mode-in .mode-in .ensures)
 
 pub decode-order-spec : {M : Type 1} → statement M
 decode-order-spec =
