@@ -42,7 +42,8 @@ use Rattle.ports.proofs.Surveys.{masks-sound, masks-states}
 use Rattle.caches.proofs.Applied.{held-together, home-there, ruled, put-ruled}
 
 -- The word of a port that is found to own the line.
-pub owner-word : {l : Line} → Placed l → {g h d : List ℕ} → Filled (l .shape) g h d → (p : ℕ) → p < l .shape .ports → {x : ℕ} → x ≡ wordIn d (p * l .shape .sets + l .place .index) → x ≡ wordAt (l .shape) (tablesIn (l .shape) g h d) (l .number) p
+pub owner-word : {l : Line} → Placed l → {g h d : List ℕ} → Filled (l .shape) g h d → (p : ℕ) → p < l .shape .ports → {x : ℕ}
+    → x ≡ wordIn d (p * l .shape .sets + l .place .index) → x ≡ wordAt (l .shape) (tablesIn (l .shape) g h d) (l .number) p
 unfolding wordAt tablesIn
 owner-word {l} v {d = d} f p q e = word-read f (there v p q) e ∙ ap (λ (k : ℕ). getD (numbers 8 (entries (l .shape)) d) k 0) (number-is v p)
 
@@ -100,7 +101,8 @@ module _ (s : Shape) (b : Bytes) (i a : ℕ) (acc : Access) (m : Mode) where
   numbersOf = accepted (eff .value) (bit (eff .swapped)) (bit (not (holds s t a i) && not (dirty s t a))) (bit evicts + bit (ruling .stores))
 
   access-link : (pos : zero < s .sets) (port : i < s .ports)
-      → accessed s (modelIn s b) i a acc m ≡ result numbersOf (let u = ruled s pos t i a port ruling (eff .word) in model stores (u .tags) (u .states) (u .words))
+      → accessed s (modelIn s b) i a acc m ≡ result numbersOf (let u = ruled s pos t i a port ruling (eff .word) in model stores (u .tags)
+      (u .states) (u .words))
   unfolding accessed applied accessRule wordFound fetches evictsOwner shared dirty byteAfter wordAfter wordAt seen tablesIn modelIn
   access-link pos port = refl
 
@@ -136,21 +138,27 @@ module _ {l : Line} (v : Placed l) (g h d : List ℕ) (i : ℕ) (port : i < l .s
       owner-own = eo ∙ rw (ey, entry-own)
 
       -- An evicted word is stored at a line that is there.
-      pub home-below : {x : Masks} → x ≡ masksOf s t′ a → x .sound ≡ true → (hit : Bool) {home : ℕ} → home ≡ e .tag * s .sets + l .place .index → (not hit && o) ≡ true → home < s .lines
+      pub home-below : {x : Masks} → x ≡ masksOf s t′ a → x .sound ≡ true → (hit : Bool) {home : ℕ}
+          → home ≡ e .tag * s .sets + l .place .index → (not hit && o) ≡ true → home < s .lines
       home-below ex u hit eh h =
           rw (home-own eh) (home-there s t′ i a port (sym (masks-sound s t′ a ex) ∙ u) (sym owner-own ∙ and-r (not hit) o h))
 
       pub access-done : (m₀ : List ℕ) (acc : Access) (m : Mode) (b′ : Bytes)
-          → {hit : Bool} → hit ≡ holds s t′ a i → {others : ℕ} → others ≡ portsFrom (other s t′ i a) 0 (s .ports) → {dirt : Bool} → dirt ≡ dirty s t′ a
-          → {f w : ℕ} → f ≡ memoryAt (modelIn s (bytes m₀ g h d)) a → w ≡ cond hit (e .word) (atOr (wordAt s t′ a) f (lowest (owns s t′ a) (s .ports)))
+          → {hit : Bool} → hit ≡ holds s t′ a i → {others : ℕ} → others ≡ portsFrom (other s t′ i a) 0 (s .ports) → {dirt : Bool}
+          → dirt ≡ dirty s t′ a
+          → {f w : ℕ} → f ≡ memoryAt (modelIn s (bytes m₀ g h d)) a
+          → w ≡ cond hit (e .word) (atOr (wordAt s t′ a) f (lowest (owns s t′ a) (s .ports)))
           → {k : Effect} → k ≡ effectAt acc w → {x : ℕ} → x ≡ cond hit (e .byte) 0
           → {r : Coded} → r ≡ coded (rule (k .outcome) m (not (eqb others 0)) dirt (orInvalid (stateOf x)))
           → {u : Model} → u ≡ answered s t′ i a (busAt (r .bus)) (k .word) (s .ports)
           → tablesIn s (b′ .tags) (b′ .states) (b′ .words) ≡ putAt u at (record { tag = l .place .tag; byte = r .own; word = k .word })
           → {home : ℕ} → home ≡ e .tag * s .sets + l .place .index
-          → {m₁ : List ℕ} → m₁ ≡ store (not hit && o) home (e .word) (numbers 8 (s .lines) m₀) → numbers 8 (s .lines) (b′ .memory) ≡ store (r .stores) a (k .word) m₁
-          → {n₁ n₂ n₃ n₄ : ℕ} → n₁ ≡ bit (k .swapped) → n₂ ≡ bit (not hit && not dirt) → n₃ ≡ bit (not hit && o) → n₄ ≡ bit (r .stores)
-          → result (record { refusal = 0; value = k .value; swapped = n₁; reads = n₂; writes = n₃ + n₄ }) (modelIn s b′) ≡ accessed s (modelIn s (bytes m₀ g h d)) i a acc m
+          → {m₁ : List ℕ} → m₁ ≡ store (not hit && o) home (e .word) (numbers 8 (s .lines) m₀)
+          → numbers 8 (s .lines) (b′ .memory) ≡ store (r .stores) a (k .word) m₁
+          → {n₁ n₂ n₃ n₄ : ℕ} → n₁ ≡ bit (k .swapped) → n₂ ≡ bit (not hit && not dirt) → n₃ ≡ bit (not hit && o)
+          → n₄ ≡ bit (r .stores)
+          → result (record { refusal = 0; value = k .value; swapped = n₁; reads = n₂; writes = n₃ + n₄ }) (modelIn s b′) ≡ accessed s
+          (modelIn s (bytes m₀ g h d)) i a acc m
       unfolding entryAt wordAt coded
       access-done m₀ acc m b′ hh {others} ho hd {f} {w} hf hw {k} hk {x} hx {r} hr hg hp hm h₁ h₂ f₁ f₂ f₃ f₄ =
           let b : Bytes = bytes m₀ g h d in
@@ -161,7 +169,8 @@ module _ {l : Line} (v : Placed l) (g h d : List ℕ) (i : ℕ) (port : i < l .s
           let es : not (eqb others 0) ≡ shared s t′ i a = rw ho (shared-any s t′ i a) in
           let ex : orInvalid (stateOf x) ≡ seen s t′ a i = rw (hx, hh, entry-own) (hit-state s t′ i a) in
           let er : r ≡ coded R = hr ∙ rw (ek, es, hd, ex) in
-          let et : tablesIn s (b′ .tags) (b′ .states) (b′ .words) ≡ ruled s (some v) t′ i a port R (E .word) = hp ∙ rw (number-is v i, tag-is v, ek, er) (put-ruled s (some v) t′ i a port R (E .word) (hg ∙ rw (ek, er, bus-at (R .bus)))) in
+          let et : tablesIn s (b′ .tags) (b′ .states) (b′ .words) ≡ ruled s (some v) t′ i a port R (E .word) = hp ∙ rw
+          (number-is v i, tag-is v, ek, er) (put-ruled s (some v) t′ i a port R (E .word) (hg ∙ rw (ek, er, bus-at (R .bus)))) in
           let em : numbers 8 (s .lines) (b′ .memory) ≡ stores s b i a acc m = h₂ ∙ rw (h₁, ek, er, hh, owner-own, home-own hm, entry-own) in
           rw (held-together s b′ em et, f₁, f₂, f₃, f₄, ek, er, hh, hd, owner-own) (sym (access-link s b i a acc m (some v) port))
 

@@ -27,18 +27,21 @@ use Rattle.ports.proofs.Bytes.{model-eq}
 use Rattle.ports.proofs.Puts.{own-last}
 
 -- A store in memory's bytes is a store in its words.
-pub stored : (n : ℕ) (m : List ℕ) {m' : List ℕ} {on : Bool} {k w : ℕ} → on ≡ true → length m ≡ 8 * n → k < n → w < 2 ^ 64 → m' ≡ sets m (8 * k) (bytesOf 8 w)
+pub stored : (n : ℕ) (m : List ℕ) {m' : List ℕ} {on : Bool} {k w : ℕ} → on ≡ true → length m ≡ 8 * n → k < n → w < 2 ^ 64
+    → m' ≡ sets m (8 * k) (bytesOf 8 w)
     → numbers 8 n m' ≡ store on k w (numbers 8 n m)
 stored n m {k = k} {w = w} o l q f e = rw (o, e) (set-numbers 8 n k w m q (omega arith) (omega (arith, l)))
 
 -- Memory and the tables, held together.
-pub held-together : (s : Shape) (b : Bytes) {x : List ℕ} {t : Model} → numbers 8 (s .lines) (b .memory) ≡ x → tablesIn s (b .tags) (b .states) (b .words) ≡ t
+pub held-together : (s : Shape) (b : Bytes) {x : List ℕ} {t : Model} → numbers 8 (s .lines) (b .memory) ≡ x
+    → tablesIn s (b .tags) (b .states) (b .words) ≡ t
     → modelIn s b ≡ model x (t .tags) (t .states) (t .words)
 unfolding modelIn tablesIn
 held-together s b em et = model-eq em (ap (λ (t : Model). t .tags) et) (ap (λ (t : Model). t .states) et) (ap (λ (t : Model). t .words) et)
 
 -- In a sound column, an owner's entry has a home line that is there.
-pub home-there : (s : Shape) (t : Model) (i a : ℕ) → i < s .ports → Is (columnSound s t a) → Is (owner (stateAt t (entryOf s a i))) → homeAt s t (entryOf s a i) < s .lines
+pub home-there : (s : Shape) (t : Model) (i a : ℕ) → i < s .ports → Is (columnSound s t a) → Is (owner (stateAt t (entryOf s a i)))
+    → homeAt s t (entryOf s a i) < s .lines
 unfolding columnSound sound
 home-there s t i a h c o =
     let v : Is (valid (stateAt t (entryOf s a i))) = owner-valid (stateAt t (entryOf s a i)) o in
@@ -64,12 +67,14 @@ module _ (s : Shape) (pos : zero < s .sets) (t : Model) (i a : ℕ) (port : i < 
 
   -- The tables after the rule.
   abbrev pub ruled : Model
-  ruled = model (t .memory) (set (t .tags) (entryOf s a i) (tagOf s a)) (putBelow (entryOf s a) (byteAfter s t i a r) (s .ports) (t .states)) (putBelow (entryOf s a) (wordAfter s t i a r w) (s .ports) (t .words))
+  ruled = model (t .memory) (set (t .tags) (entryOf s a i) (tagOf s a)) (putBelow (entryOf s a) (byteAfter s t i a r) (s .ports) (t .states))
+      (putBelow (entryOf s a) (wordAfter s t i a r w) (s .ports) (t .words))
 
   pub put-ruled : {y : Model} → y ≡ answered s t i a (r .bus) w (s .ports)
       → putAt y (entryOf s a i) (record { tag = tagOf s a; byte = code (r .own); word = w }) ≡ ruled
   unfolding putAt answered
   put-ruled e =
       rw e (model-eq refl refl
-      (own-last (entryOf s a) (entry-inj s pos a) (byteAfter s t i a r) (s .ports) (t .states) i (code (r .own)) port own-byte (byteAnswered s t i a (r .bus) w) byte-sent)
+      (own-last (entryOf s a) (entry-inj s pos a) (byteAfter s t i a r) (s .ports) (t .states) i (code (r .own)) port own-byte
+      (byteAnswered s t i a (r .bus) w) byte-sent)
       (own-last (entryOf s a) (entry-inj s pos a) (wordAfter s t i a r w) (s .ports) (t .words) i w port own-word (wordAnswered s t i a (r .bus) w) word-sent))

@@ -34,7 +34,8 @@ module _ (s : Shape) (pos : zero < s .sets) (t : Model) (i a : ℕ) (port : i < 
   abbrev pub flushing : Rule
   flushing = flushRule (seen s t a i)
 
-  pub emptied : Is (holds s t a i) → model (t .memory) (t .tags) (set (t .states) (entryOf s a i) 0) (t .words) ≡ ruled s pos t i a port flushing (wordAt s t a i)
+  pub emptied : Is (holds s t a i) → model (t .memory) (t .tags) (set (t .states) (entryOf s a i) 0) (t .words) ≡ ruled s pos t i a port flushing
+      (wordAt s t a i)
   unfolding putAt code wordAt
   emptied held =
       model-eq refl (sym (ap (set (t .tags) (entryOf s a i)) (sym (seen-tag s t a i held)) ∙ set-getD (t .tags) (entryOf s a i) 0))
@@ -49,7 +50,8 @@ module _ (s : Shape) (b : Bytes) (i a : ℕ) where
 
   flush-held : (pos : zero < s .sets) (port : i < s .ports) → Is (holds s t a i)
       → flushed s (modelIn s b) i a ≡ result (accepted 0 0 0 (bit (owns s t a i)))
-      (let u = ruled s pos t i a port (flushRule (seen s t a i)) (wordAt s t a i) in model (store (owns s t a i) a (wordAt s t a i) (numbers 8 (s .lines) (b .memory))) (u .tags) (u .states) (u .words))
+      (let u = ruled s pos t i a port (flushRule (seen s t a i)) (wordAt s t a i) in model
+      (store (owns s t a i) a (wordAt s t a i) (numbers 8 (s .lines) (b .memory))) (u .tags) (u .states) (u .words))
   unfolding flushed applied evictsOwner flushRule byteAfter wordAfter wordAt seen tablesIn modelIn
   flush-held pos port h = rw h
 
@@ -57,7 +59,8 @@ module _ (s : Shape) (b : Bytes) (i a : ℕ) where
   unfolding flushed seen tablesIn modelIn
   flush-away h = rw (not-true (holds s t a i) h)
 
-same-model : (s : Shape) (m g h d m′ h′ : List ℕ) → numbers 8 (s .lines) m′ ≡ numbers 8 (s .lines) m → h′ ≡ h → modelIn s (bytes m′ g h′ d) ≡ modelIn s (bytes m g h d)
+same-model : (s : Shape) (m g h d m′ h′ : List ℕ) → numbers 8 (s .lines) m′ ≡ numbers 8 (s .lines) m → h′ ≡ h
+    → modelIn s (bytes m′ g h′ d) ≡ modelIn s (bytes m g h d)
 unfolding modelIn
 same-model s m g h d m′ h′ e f = rw (e, f)
 
@@ -80,9 +83,12 @@ module _ {l : Line} (v : Placed l) (m g h d : List ℕ) (i : ℕ) (port : i < l 
   unfolding tablesIn
   emptied-bytes h′ held e = rw (e, number-is v i) (emptied s (some v) t′ i a port unpacked held)
 
-  pub flush-done : (m′ h′ : List ℕ) {held stores : Bool} → held ≡ holds s t′ a i → stores ≡ owns s t′ a i → {w : ℕ} → w ≡ wordAt s t′ a i
-      → h′ ≡ cond held (set h (i * l .shape .sets + l .place .index) 0) h → numbers 8 (s .lines) m′ ≡ store stores a w (numbers 8 (s .lines) m) → {n : ℕ} → n ≡ bit stores
-      → result (record { refusal = 0; value = 0; swapped = 0; reads = 0; writes = n }) (modelIn s (bytes m′ g h′ d)) ≡ flushed s (modelIn s (bytes m g h d)) i a
+  pub flush-done : (m′ h′ : List ℕ) {held stores : Bool} → held ≡ holds s t′ a i → stores ≡ owns s t′ a i → {w : ℕ}
+      → w ≡ wordAt s t′ a i
+      → h′ ≡ cond held (set h (i * l .shape .sets + l .place .index) 0) h
+      → numbers 8 (s .lines) m′ ≡ store stores a w (numbers 8 (s .lines) m) → {n : ℕ} → n ≡ bit stores
+      → result (record { refusal = 0; value = 0; swapped = 0; reads = 0; writes = n }) (modelIn s (bytes m′ g h′ d)) ≡ flushed s
+      (modelIn s (bytes m g h d)) i a
   flush-done m′ h′ {held} {stores} eh es {w} ew ehs em en =
       by-bool (holds s t′ a i)
       (λ y. let eh′ : h′ ≡ set h (i * l .shape .sets + l .place .index) 0 = ehs ∙ rw (eh, y) in
