@@ -43,7 +43,8 @@ pub class-row : (b : ℕ) {y : Byte} {z : Bool} {n : ℕ} → y ≡ stateOf b �
     → n ≡ classOf (stateOf b)
 class-row b {y} {z} ey ez v en =
     let h : Is (isState (stateOf b)) = rw (← ey, ← ez) (not-false z v) in
-    en ∙ subst (λ (k : ℕ). nibbleAt classRow (k % 16) ≡ classOf (stateOf b)) (code-stateOf b h) (row-says (orInvalid (stateOf b)) ∙ state-class (stateOf b) h)
+    en ∙ subst (λ (k : ℕ). nibbleAt classRow (k % 16) ≡ classOf (stateOf b)) (code-stateOf b h)
+    (row-says (orInvalid (stateOf b)) ∙ state-class (stateOf b) h)
 
 pub class-none : (b : ℕ) {y : Byte} {z : Bool} → y ≡ stateOf b → z ≡ isState y → not z ≡ true → 1 ≡ classOf (stateOf b)
 class-none b ey ez v = none (stateOf b) (rw (← ey, ← ez) (not-true _ v))
@@ -85,8 +86,10 @@ pub together-oneO : (y z : State) → Is (together y z) → Is (isO y) → Is (i
 together-oneO y z h a b = not-both (both a b) (mp (at-states (λ y z. implies (together y z) (not (isO y && isO z))) refl y z) h)
 
 -- The classes say it too.
-pub class-compatible : (y z : Byte) → Is (valid (orInvalid y)) → Is (valid (orInvalid z)) → compatible (classOf y) (classOf z) ≡ together (orInvalid y) (orInvalid z)
+pub class-compatible : (y z : Byte) → Is (valid (orInvalid y)) → Is (valid (orInvalid z))
+    → compatible (classOf y) (classOf z) ≡ together (orInvalid y) (orInvalid z)
 unfolding compatible
-class-compatible (Of y) (Of z) v w = same-eq (compatible (classNumber y) (classNumber z)) (together y z) (at-states (λ y z. same (compatible (classNumber y) (classNumber z)) (together y z)) refl y z)
+class-compatible (Of y) (Of z) v w = same-eq (compatible (classNumber y) (classNumber z)) (together y z)
+    (at-states (λ y z. same (compatible (classNumber y) (classNumber z)) (together y z)) refl y z)
 class-compatible (Of y) No v w = absurd (false≢true w)
 class-compatible No z v w = absurd (false≢true v)

@@ -25,7 +25,8 @@ use Rattle.model.proofs.Entries.{seen-tag, seen-here}
 use Rattle.model.proofs.Lent.{lent-facts, some-sets}
 use Rattle.model.proofs.Audited.{audit-facts, facts-audit}
 use Rattle.audit.specs.Entries.{entryPasses, indexPasses, columnsPass}
-use Rattle.audit.proofs.Fine.{or-mp, or-imp, numberBy, tagBy, byteBy, stateBy, wordBy, homeBy, Fits, fits-flip, Fine, passes-fine, passes-state, fine-passes, state-passes}
+use Rattle.audit.proofs.Fine.{or-mp, or-imp, numberBy, tagBy, byteBy, stateBy, wordBy, homeBy, Fits, fits-flip, Fine, passes-fine}
+use Rattle.audit.proofs.Fine.{passes-state, fine-passes, state-passes}
 use Rattle.audit.proofs.Classes.{together, together-modes, together-shared, together-oneO}
 use Rattle.audit.proofs.Pairs.{by-pairs}
 
@@ -79,7 +80,8 @@ module _ (s : Shape) (t : Model) (pos : zero < s .sets) (test : (x p : ℕ) → 
     words-here = same-or (λ r. wordAt s t a p ≡ wordAt s t a r) refl (λ f. sym (f .words))
 
     modes-here : modeOf (seen s t a p) ≡ modeOf (seen s t a q)
-    modes-here = same-or (λ r. modeOf (seen s t a p) ≡ modeOf (seen s t a r)) refl (λ f. rw (sees a p vp, sees a q vq) (together-modes mine theirs (f .states)))
+    modes-here = same-or (λ r. modeOf (seen s t a p) ≡ modeOf (seen s t a r)) refl
+        (λ f. rw (sees a p vp, sees a q vq) (together-modes mine theirs (f .states)))
 
     alone-here : Is (exclusive (seen s t a p)) → p ≡ q
     alone-here e = same-or (λ r. p ≡ r) refl (λ f. absurd (together-shared mine theirs (f .states) (rw (sees a p vp) at e)))
@@ -87,7 +89,8 @@ module _ (s : Shape) (t : Model) (pos : zero < s .sets) (test : (x p : ℕ) → 
     oneO-here : Is (isO (seen s t a p)) → Is (isO (seen s t a q)) → p ≡ q
     oneO-here y z = same-or (λ r. p ≡ r) refl (λ f. absurd (together-oneO mine theirs (f .states) (rw (sees a p vp) at y) (rw (sees a q vq) at z)))
 
-  clean-here : (a p : ℕ) → p < s .ports → Is (holds s t a p) → ((q : ℕ) → q < s .ports → owns s t a q ≡ false) → wordAt s t a p ≡ memoryAt t a
+  clean-here : (a p : ℕ) → p < s .ports → Is (holds s t a p) → ((q : ℕ) → q < s .ports → owns s t a q ≡ false)
+      → wordAt s t a p ≡ memoryAt t a
   unfolding wordAt
   clean-here a p hp v u =
       fine-here a p hp v .clean (λ q hq g o.
@@ -103,10 +106,12 @@ module _ (s : Shape) (t : Model) (pos : zero < s .sets) (test : (x p : ℕ) → 
       (λ v. both (valid-state (byteBy s t x p) v) (or-imp (valid (stateBy s t x p)) (ltb (homeAt s t (numberBy s t x p)) (s .lines)) (λ w.
       lt-ltb (homeAt s t (numberBy s t x p)) (s .lines)
       (subst (λ (z : ℕ). tagBy s t x p * s .sets + z < s .lines) (sym (digits-mod p hx)) (passes-fine s t x p v hp (test x p hx hp) .home)))))
-      (λ v. both (passes-state s t x p (test x p hx hp) v) (or-imp (valid (stateBy s t x p)) (ltb (homeAt s t (numberBy s t x p)) (s .lines)) (λ w. absurd (not-both w v))))
+      (λ v. both (passes-state s t x p (test x p hx hp) v) (or-imp (valid (stateBy s t x p)) (ltb (homeAt s t (numberBy s t x p)) (s .lines))
+      (λ w. absurd (not-both w v))))
 
   sound-at : (k : ℕ) → k < entries s → Is (sound s t k)
-  sound-at k h = subst (λ (z : ℕ). Is (sound s t z)) (div-add-mod' k (s .sets)) (sound-by (k % s .sets) (k / s .sets) (mod-lt k pos) (div-lt-iff-lt-mul pos .1 h))
+  sound-at k h = subst (λ (z : ℕ). Is (sound s t z)) (div-add-mod' k (s .sets))
+      (sound-by (k % s .sets) (k / s .sets) (mod-lt k pos) (div-lt-iff-lt-mul pos .1 h))
 
   tests-facts : lentRefusal s t ≡ 0 → Coherent s t
   tests-facts lent = record {
@@ -172,12 +177,14 @@ module _ (s : Shape) (t : Model) (facts : Coherent s t) (x p : ℕ) (hx : x < s 
       -- Two ports' states, as they see the line: in one mode, neither alone, and not both O.
       states-seen : q ≢ p → Is (together (seen s t line p) (seen s t line q))
       states-seen d =
-          let one : Is (sameMode (modeOf (seen s t line p)) (modeOf (seen s t line q))) = rw (facts .modes line p q below hp hq own other) (mode-itself (modeOf (seen s t line q))) in
+          let one : Is (sameMode (modeOf (seen s t line p)) (modeOf (seen s t line q))) = rw (facts .modes line p q below hp hq own other)
+          (mode-itself (modeOf (seen s t line q))) in
           both (both (both one
           (not-is (exclusive (seen s t line p)) (λ e. d (sym (facts .alone line p q below hp hq e other)))))
           (not-is (exclusive (seen s t line q)) (λ e. d (facts .alone line q p below hq hp e own))))
           (not-is (isO (seen s t line p) && isO (seen s t line q)) (λ e.
-          d (sym (facts .oneO line p q below hp hq (and-l (isO (seen s t line p)) (isO (seen s t line q)) e) (and-r (isO (seen s t line p)) (isO (seen s t line q)) e)))))
+          d (sym (facts .oneO line p q below hp hq (and-l (isO (seen s t line p)) (isO (seen s t line q)) e)
+          (and-r (isO (seen s t line p)) (isO (seen s t line q)) e)))))
 
       fits-fine : q ≢ p → Fits s t x p q
       fits-fine d = record {
@@ -185,7 +192,8 @@ module _ (s : Shape) (t : Model) (facts : Coherent s t) (x p : ℕ) (hx : x < s 
         states = rw (← seen-is p refl, ← seen-is q g) (states-seen d);
       }
 
-    clean-fine : ((q : ℕ) → q < s .ports → tagBy s t x q ≡ tagBy s t x p → Is (owner (stateBy s t x q)) → ⊥) → wordBy s t x p ≡ memoryAt t line
+    clean-fine : ((q : ℕ) → q < s .ports → tagBy s t x q ≡ tagBy s t x p → Is (owner (stateBy s t x q)) → ⊥)
+        → wordBy s t x p ≡ memoryAt t line
     clean-fine u =
         sym (word-is p) ∙ facts .clean line p below hp own (λ q hq. not-true (owns s t line q) (not-is (owns s t line q) (λ o.
         let g = tag-of q (owner-valid (seen s t line q) o) in
@@ -205,5 +213,6 @@ pub columns-audit : (s : Shape) (t : Model) → lentRefusal s t ≡ 0 → column
 unfolding columnsPass indexPasses
 columns-audit s t lent =
     same-bool (columnsPass s t) (audit s t)
-    (λ c. facts-audit s t (tests-facts s t (some-sets s (lent-facts s t lent .range)) (λ x p hx hp. below-all (entryPasses s t x) (s .ports) (below-all (indexPasses s t) (s .sets) c x hx) p hp) lent))
+    (λ c. facts-audit s t (tests-facts s t (some-sets s (lent-facts s t lent .range))
+    (λ x p hx hp. below-all (entryPasses s t x) (s .ports) (below-all (indexPasses s t) (s .sets) c x hx) p hp) lent))
     (λ a. all-below (indexPasses s t) (s .sets) (λ x hx. all-below (entryPasses s t x) (s .ports) (λ p hp. facts-test s t (audit-facts s t a) x p hx hp)))

@@ -76,7 +76,8 @@ fits-flip {s} {t} {x} {p} {q} f = record { words = sym (f .words); states = toge
 pub record Fine (s : Shape) (t : Model) (x p : ℕ) : Type 0 where
   pub home : homeBy s t x p < s .lines
   pub pairs : (q : ℕ) → q < p → tagBy s t x q ≡ tagBy s t x p → Is (valid (stateBy s t x q)) → Fits s t x p q
-  pub clean : ((q : ℕ) → q < s .ports → tagBy s t x q ≡ tagBy s t x p → Is (owner (stateBy s t x q)) → ⊥) → wordBy s t x p ≡ memoryAt t (homeBy s t x p)
+  pub clean : ((q : ℕ) → q < s .ports → tagBy s t x q ≡ tagBy s t x p → Is (owner (stateBy s t x q)) → ⊥)
+      → wordBy s t x p ≡ memoryAt t (homeBy s t x p)
 
 module _ (s : Shape) (t : Model) (x p : ℕ) where
   abbrev entry : ℕ → Held
@@ -110,8 +111,11 @@ module _ (s : Shape) (t : Model) (x p : ℕ) where
 
   q-owns : (q : ℕ) → Is (ownsBy q) → ((tagBy s t x q ≡ tagBy s t x p) × Is (owner (stateBy s t x q)))
   unfolding ownsAt
-  q-owns q h =
-      (eqb-true (tagBy s t x q) (tagBy s t x p) (and-l (sameTag q) (isOwner (classBy q)) h), sym (class-owner (byteBy s t x q)) ∙ and-r (sameTag q) (isOwner (classBy q)) h)
+  q-owns q h = (
+    eqb-true (tagBy s t x q) (tagBy s t x p) (and-l (sameTag q) (isOwner (classBy q)) h),
+    sym (class-owner (byteBy s t x q)) ∙ and-r (sameTag q)
+        (isOwner (classBy q)) h,
+  )
 
   pub passes-state : Is (entryPasses s t x p) → Is (not (valid (stateBy s t x p))) → Is (isState (byteBy s t x p))
   unfolding entryPasses passesWith heldAt
@@ -170,13 +174,15 @@ module _ (s : Shape) (t : Model) (x p : ℕ) where
 
     pub passes-fine : p < s .ports → Is (entryPasses s t x p) → Fine s t x p
     unfolding entryPasses passesWith heldAt
-    passes-fine hp h = goes-fine hp (held-near (leb 8 (classBy p)) far goes (eqb (classBy p) 0) h held) (held-test (leb 8 (classBy p)) far goes (eqb (classBy p) 0) h held)
+    passes-fine hp h = goes-fine hp (held-near (leb 8 (classBy p)) far goes (eqb (classBy p) 0) h held)
+        (held-test (leb 8 (classBy p)) far goes (eqb (classBy p) 0) h held)
 
     fine-goes : Fine s t x p → Is goes
     unfolding belowPass ownedAt
     fine-goes f =
         both (all-below pairBy p (λ q l. fits-pair q (f .pairs q l)))
-        (by-bool owned (λ o. or-r (clean || isOwner (classBy p)) o) (λ n. or-l owned (or-l (isOwner (classBy p)) (eq-eqb (wordBy s t x p) (memoryAt t (homeBy s t x p))
+        (by-bool owned (λ o. or-r (clean || isOwner (classBy p)) o)
+        (λ n. or-l owned (or-l (isOwner (classBy p)) (eq-eqb (wordBy s t x p) (memoryAt t (homeBy s t x p))
         (f .clean (λ q l g o. not-both (owns-q q g o) (below-none ownsBy (s .ports) n q l)))))))
 
     pub fine-passes : Fine s t x p → Is (entryPasses s t x p)

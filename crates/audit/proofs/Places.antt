@@ -23,7 +23,8 @@ pub in-column : {sets ports x p q : ℕ} → q < p → (x < sets) × (p < ports)
 in-column l h = let k = h .1 in digits-lt (omega arith) (h .0)
 
 -- An entry read, and a tag by itself.
-pub held-is : (s : Shape) (g h d : List ℕ) {k : ℕ} → k < entries s → {t n w : ℕ} → t ≡ tagIn g k → n ≡ classOf (stateOf (getD h k 0)) → w ≡ wordIn d k
+pub held-is : (s : Shape) (g h d : List ℕ) {k : ℕ} → k < entries s → {t n w : ℕ} → t ≡ tagIn g k
+    → n ≡ classOf (stateOf (getD h k 0)) → w ≡ wordIn d k
     → _≡_ {A = Held} (record { tag = t; class = n; word = w }) (heldAt (tablesIn s g h d) k)
 unfolding heldAt tablesIn
 held-is s g h d {k} q et en ew = rw (et, en, ew, get-numbers 4 (entries s) k g q, get-numbers 8 (entries s) k d q)

@@ -19,24 +19,31 @@ loop-holds : tie.Need-loop-holds Inv-loop μ-loop
 loop-holds c = passing-none _ _
 
 index-passes-requires : tie.Need-index-passes-requires Inv-loop μ-loop
-index-passes-requires c κs = (c .before .before .before .before .before .before .pre, c .loop-test .taken)
+index-passes-requires c κs = let start : tie.Start Inv-loop μ-loop = search in (start .pre, c .loop-test .taken)
 
 returns : tie.Need-returns Inv-loop μ-loop
 unfolding columnsPass
-returns c = passing-fails _ (c .before .before .before .loop .inv) (c .before .before .loop-test .taken) (c .before .index-passes .ensures) (c .if1 .taken) ∙ columns-say _ _ (c .before .before .before .before .before .before .before .before .pre)
+returns c =
+    let in-loop : tie.In-loop Inv-loop μ-loop = search in let at-loop : tie.At-loop Inv-loop μ-loop = search in
+    let start : tie.Start Inv-loop μ-loop = search in
+    passing-fails _ (at-loop .loop .inv) (in-loop .loop-test .taken) (c .before .index-passes .ensures) (c .if1 .taken) ∙ columns-say _ _ (start .pre)
 
 add-x : tie.Need-add-x Inv-loop μ-loop
-add-x c = omega (arith, c .before .before .loop-test .taken)
+add-x c = let in-loop : tie.In-loop Inv-loop μ-loop = search in omega (arith, in-loop .loop-test .taken)
 
 loop-less : tie.Need-loop-less Inv-loop μ-loop
-loop-less c = omega (arith, c .before .before .loop-test .taken)
+loop-less c = let in-loop : tie.In-loop Inv-loop μ-loop = search in omega (arith, in-loop .loop-test .taken)
 
 loop-again : tie.Need-loop-again Inv-loop μ-loop
-loop-again c = passing-more _ (c .before .before .before .loop .inv) (c .before .before .loop-test .taken) (c .before .index-passes .ensures) (c .if1 .left)
+loop-again c =
+    let in-loop : tie.In-loop Inv-loop μ-loop = search in let at-loop : tie.At-loop Inv-loop μ-loop = search in
+    passing-more _ (at-loop .loop .inv) (in-loop .loop-test .taken) (c .before .index-passes .ensures) (c .if1 .left)
 
 returns-2 : tie.Need-returns-2 Inv-loop μ-loop
 unfolding columnsPass
-returns-2 c = passing-done _ (c .before .loop .inv) (c .loop-test .left) ∙ columns-say _ _ (c .before .before .before .before .before .before .pre)
+returns-2 c =
+    let start : tie.Start Inv-loop μ-loop = search in
+    passing-done _ (c .before .loop .inv) (c .loop-test .left) ∙ columns-say _ _ (start .pre)
 
 pub audit-tables-spec : {M : Type 1} → statement M
 audit-tables-spec =

@@ -18,26 +18,30 @@ loop-holds : tie.Need-loop-holds Inv-loop μ-loop
 loop-holds c = passing-none _ _
 
 mul-k : tie.Need-mul-k Inv-loop μ-loop
-mul-k c = omega (arith, in-column (c .loop-test .taken) (c .before .before .before .before .before .pre .1), c .before .before .before .before .before .pre .0 .states-fit)
+mul-k c = let start : tie.Start Inv-loop μ-loop = search in omega (arith, in-column (c .loop-test .taken) (start .pre .1), start .pre .0 .states-fit)
 
 add-k : tie.Need-add-k Inv-loop μ-loop
-add-k c = omega (arith, in-column (c .loop-test .taken) (c .before .before .before .before .before .pre .1), c .before .before .before .before .before .pre .0 .states-fit)
+add-k c = let start : tie.Start Inv-loop μ-loop = search in omega (arith, in-column (c .loop-test .taken) (start .pre .1), start .pre .0 .states-fit)
 
 pair-passes-requires : tie.Need-pair-passes-requires Inv-loop μ-loop
-pair-passes-requires c κs = (c .before .before .before .before .before .pre .0, in-column (c .loop-test .taken) (c .before .before .before .before .before .pre .1))
+pair-passes-requires c κs = let start : tie.Start Inv-loop μ-loop = search in (start .pre .0, in-column (c .loop-test .taken) (start .pre .1))
 
 returns : tie.Need-returns Inv-loop μ-loop
 unfolding belowPass
-returns c = passing-fails _ (c .before .before .before .loop .inv) (c .before .before .loop-test .taken) (c .before .pair-passes .ensures) (c .if1 .taken)
+returns c =
+    let in-loop : tie.In-loop Inv-loop μ-loop = search in let at-loop : tie.At-loop Inv-loop μ-loop = search in
+    passing-fails _ (at-loop .loop .inv) (in-loop .loop-test .taken) (c .before .pair-passes .ensures) (c .if1 .taken)
 
 add-q : tie.Need-add-q Inv-loop μ-loop
-add-q c = omega (arith, c .before .before .loop-test .taken)
+add-q c = let in-loop : tie.In-loop Inv-loop μ-loop = search in omega (arith, in-loop .loop-test .taken)
 
 loop-less : tie.Need-loop-less Inv-loop μ-loop
-loop-less c = omega (arith, c .before .before .loop-test .taken)
+loop-less c = let in-loop : tie.In-loop Inv-loop μ-loop = search in omega (arith, in-loop .loop-test .taken)
 
 loop-again : tie.Need-loop-again Inv-loop μ-loop
-loop-again c = passing-more _ (c .before .before .before .loop .inv) (c .before .before .loop-test .taken) (c .before .pair-passes .ensures) (c .if1 .left)
+loop-again c =
+    let in-loop : tie.In-loop Inv-loop μ-loop = search in let at-loop : tie.At-loop Inv-loop μ-loop = search in
+    passing-more _ (at-loop .loop .inv) (in-loop .loop-test .taken) (c .before .pair-passes .ensures) (c .if1 .left)
 
 returns-2 : tie.Need-returns-2 Inv-loop μ-loop
 unfolding belowPass

@@ -11,40 +11,63 @@ use Rattle.audit.proofs.Tested.{tested-free, tested-far, tested-apart, 
 use Rattle.audit.proofs.entry_passes.Statement.{statement}
 use Rattle.audit.proofs.entry_passes.Tie as tie
 
+-- The points behind this one, by name.
+abbrev start-of-held-at : tie.After-held-at → tie.Start
+start-of-held-at c = c .before .before .before .before .before
+
 mul-k : tie.Need-mul-k
-mul-k c = omega (arith, digits-lt (c .before .before .before .before .pre .1 .1) (c .before .before .before .before .pre .1 .0), c .before .before .before .before .pre .0 .filled .states-fit)
+mul-k c = let start : tie.Start = search in omega (arith, digits-lt (start .pre .1 .1) (start .pre .1 .0), start .pre .0 .filled .states-fit)
 
 add-k : tie.Need-add-k
-add-k c = omega (arith, digits-lt (c .before .before .before .before .pre .1 .1) (c .before .before .before .before .pre .1 .0), c .before .before .before .before .pre .0 .filled .states-fit)
+add-k c = let start : tie.Start = search in omega (arith, digits-lt (start .pre .1 .1) (start .pre .1 .0), start .pre .0 .filled .states-fit)
 
 held-at-requires : tie.Need-held-at-requires
-held-at-requires c κs = (c .before .before .before .before .pre .0 .filled, digits-lt (c .before .before .before .before .pre .1 .1) (c .before .before .before .before .pre .1 .0))
+held-at-requires c κs = let start : tie.Start = search in (start .pre .0 .filled, digits-lt (start .pre .1 .1) (start .pre .1 .0))
 
 returns : tie.Need-returns
 unfolding heldAt modelIn tablesIn
-returns c = tested-free _ _ _ _ (c .before .before .before .held-at .ensures) (c .before .if1 .taken)
+returns c = let after-held-at : tie.After-held-at = search in tested-free _ _ _ _ (after-held-at .held-at .ensures) (c .before .if1 .taken)
 
 home-of-requires : tie.Need-home-of-requires
-home-of-requires c κs = (bounded _ (c .before .before .before .before .before .before .before .pre .0 .range) .sets-most, c .before .before .before .before .before .before .before .pre .1 .0)
+home-of-requires c κs = let start : tie.Start = search in (bounded _ (start .pre .0 .range) .sets-most, start .pre .1 .0)
 
 returns-2 : tie.Need-returns-2
 unfolding heldAt modelIn tablesIn
-returns-2 c = tested-far _ _ _ _ (c .before .before .before .before .before .held-at .ensures) (c .before .before .before .if1 .left) (c .before .before .home-of .ensures) (c .if2 .taken)
+returns-2 c =
+    let after-home-of : tie.After-home-of = search in let else-1 : tie.Else1 = search in let after-held-at : tie.After-held-at = search in
+    tested-far _ _ _ _ (after-held-at .held-at .ensures) (else-1 .if1 .left) (after-home-of .home-of .ensures) (c .if2 .taken)
 
 returns-3 : tie.Need-returns-3
 unfolding heldAt belowPass modelIn tablesIn
-returns-3 c = tested-apart _ _ _ _ (c .before .before .before .before .before .before .before .held-at .ensures) (c .before .before .before .before .before .if1 .left) (c .before .before .before .before .home-of .ensures) (c .before .before .if2 .left) (c .before .below-pass .ensures) (c .if3 .taken)
+returns-3 c =
+    let else-2 : tie.Else2 = search in let after-home-of : tie.After-home-of = search in let else-1 : tie.Else1 = search in
+    let after-held-at : tie.After-held-at = search in
+    tested-apart _ _ _ _ (after-held-at .held-at .ensures) (else-1 .if1 .left) (after-home-of .home-of .ensures) (else-2 .if2 .left)
+    (c .before .below-pass .ensures) (c .if3 .taken)
 
 returns-4 : tie.Need-returns-4
 unfolding heldAt belowPass modelIn tablesIn
-returns-4 c = tested-kept _ _ _ _ (c .before .before .before .before .before .before .before .before .before .before .before .held-at .ensures) (c .before .before .before .before .before .before .before .before .before .if1 .left) (c .before .before .before .before .before .before .before .before .home-of .ensures) (c .before .before .before .before .before .before .if2 .left) (c .before .before .before .before .before .below-pass .ensures) (c .before .before .before .before .if3 .left) (sym (memory-word (c .before .before .before .before .before .before .before .before .before .before .before .before .before .before .before .before .pre .0) (c .before .before .before .before .before .before .if2 .left) (c .before .before .before .word-at .ensures))) (c .before .is-owner .ensures) (c .if4 .taken)
+returns-4 c =
+    let after-word-at : tie.After-word-at = search in let else-3 : tie.Else3 = search in let after-below-pass : tie.After-below-pass = search in
+    let else-2 : tie.Else2 = search in let after-home-of : tie.After-home-of = search in let else-1 : tie.Else1 = search in
+    let after-held-at : tie.After-held-at = search in let start = start-of-held-at after-held-at in
+    tested-kept _ _ _ _ (after-held-at .held-at .ensures) (else-1 .if1 .left) (after-home-of .home-of .ensures) (else-2 .if2 .left)
+    (after-below-pass .below-pass .ensures) (else-3 .if3 .left) (sym
+    (memory-word (start .pre .0) (else-2 .if2 .left) (after-word-at .word-at .ensures))) (c .before .is-owner .ensures) (c .if4 .taken)
 
 owned-at-requires : tie.Need-owned-at-requires
-owned-at-requires c κs = ((c .before .before .before .before .before .before .before .before .before .before .before .before .before .before .before .before .pre .0 .filled .tags-fit, c .before .before .before .before .before .before .before .before .before .before .before .before .before .before .before .before .pre .0 .filled .states-fit), c .before .before .before .before .before .before .before .before .before .before .before .before .before .before .before .before .pre .1 .0)
+owned-at-requires c κs = let start : tie.Start = search in ((start .pre .0 .filled .tags-fit, start .pre .0 .filled .states-fit), start .pre .1 .0)
 
 returns-5 : tie.Need-returns-5
 unfolding heldAt belowPass modelIn tablesIn
-returns-5 c = tested-owned _ _ _ _ (c .before .before .before .before .before .before .before .before .before .before .before .before .held-at .ensures) (c .before .before .before .before .before .before .before .before .before .before .if1 .left) (c .before .before .before .before .before .before .before .before .before .home-of .ensures) (c .before .before .before .before .before .before .before .if2 .left) (c .before .before .before .before .before .before .below-pass .ensures) (c .before .before .before .before .before .if3 .left) (sym (memory-word (c .before .before .before .before .before .before .before .before .before .before .before .before .before .before .before .before .before .pre .0) (c .before .before .before .before .before .before .before .if2 .left) (c .before .before .before .before .word-at .ensures))) (c .before .before .is-owner .ensures) (c .before .if4 .left) (c .owned-at .ensures)
+returns-5 c =
+    let after-is-owner : tie.After-is-owner = search in let after-word-at : tie.After-word-at = search in let else-3 : tie.Else3 = search in
+    let after-below-pass : tie.After-below-pass = search in let else-2 : tie.Else2 = search in let after-home-of : tie.After-home-of = search in
+    let else-1 : tie.Else1 = search in let after-held-at : tie.After-held-at = search in let start = start-of-held-at after-held-at in
+    tested-owned _ _ _ _ (after-held-at .held-at .ensures) (else-1 .if1 .left) (after-home-of .home-of .ensures) (else-2 .if2 .left)
+    (after-below-pass .below-pass .ensures) (else-3 .if3 .left) (sym
+    (memory-word (start .pre .0) (else-2 .if2 .left) (after-word-at .word-at .ensures))) (after-is-owner .is-owner .ensures)
+    (c .before .if4 .left) (c .owned-at .ensures)
 
 pub entry-passes-spec : {M : Type 1} → statement M
 entry-passes-spec =

@@ -11,7 +11,7 @@ returns c = rw (lt-leb 8 _ (c .if1 .taken))
 
 returns-2 : tie.Need-returns-2
 unfolding goesWith
-returns-2 c = rw (c .compatible .ensures, le-leb 8 _ (c .before .before .before .if1 .left))
+returns-2 c = let else-1 : tie.Else1 = search in rw (c .compatible .ensures, le-leb 8 _ (else-1 .if1 .left))
 
 pub goes-with-spec : {M : Type 1} → statement M
 goes-with-spec = tie.close (tie.spec returns (λ c κs. search needs) returns-2)

@@ -17,20 +17,24 @@ loop-holds : tie.Need-loop-holds Inv-loop μ-loop
 loop-holds c = passing-none _ _
 
 entry-passes-requires : tie.Need-entry-passes-requires Inv-loop μ-loop
-entry-passes-requires c κs = (c .before .before .before .before .before .before .pre .0, (c .before .before .before .before .before .before .pre .1, c .loop-test .taken))
+entry-passes-requires c κs = let start : tie.Start Inv-loop μ-loop = search in (start .pre .0, (start .pre .1, c .loop-test .taken))
 
 returns : tie.Need-returns Inv-loop μ-loop
 unfolding indexPasses
-returns c = passing-fails _ (c .before .before .before .loop .inv) (c .before .before .loop-test .taken) (c .before .entry-passes .ensures) (c .if1 .taken)
+returns c =
+    let in-loop : tie.In-loop Inv-loop μ-loop = search in let at-loop : tie.At-loop Inv-loop μ-loop = search in
+    passing-fails _ (at-loop .loop .inv) (in-loop .loop-test .taken) (c .before .entry-passes .ensures) (c .if1 .taken)
 
 add-p : tie.Need-add-p Inv-loop μ-loop
-add-p c = omega (arith, c .before .before .loop-test .taken)
+add-p c = let in-loop : tie.In-loop Inv-loop μ-loop = search in omega (arith, in-loop .loop-test .taken)
 
 loop-less : tie.Need-loop-less Inv-loop μ-loop
-loop-less c = omega (arith, c .before .before .loop-test .taken)
+loop-less c = let in-loop : tie.In-loop Inv-loop μ-loop = search in omega (arith, in-loop .loop-test .taken)
 
 loop-again : tie.Need-loop-again Inv-loop μ-loop
-loop-again c = passing-more _ (c .before .before .before .loop .inv) (c .before .before .loop-test .taken) (c .before .entry-passes .ensures) (c .if1 .left)
+loop-again c =
+    let in-loop : tie.In-loop Inv-loop μ-loop = search in let at-loop : tie.At-loop Inv-loop μ-loop = search in
+    passing-more _ (at-loop .loop .inv) (in-loop .loop-test .taken) (c .before .entry-passes .ensures) (c .if1 .left)
 
 returns-2 : tie.Need-returns-2 Inv-loop μ-loop
 unfolding indexPasses

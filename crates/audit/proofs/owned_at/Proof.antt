@@ -19,26 +19,30 @@ loop-holds : tie.Need-loop-holds Inv-loop μ-loop
 loop-holds c = seeking-none _ _
 
 mul-k : tie.Need-mul-k Inv-loop μ-loop
-mul-k c = omega (arith, digits-lt (c .loop-test .taken) (c .before .before .before .before .pre .1), c .before .before .before .before .pre .0 .1)
+mul-k c = let start : tie.Start Inv-loop μ-loop = search in omega (arith, digits-lt (c .loop-test .taken) (start .pre .1), start .pre .0 .1)
 
 add-k : tie.Need-add-k Inv-loop μ-loop
-add-k c = omega (arith, digits-lt (c .loop-test .taken) (c .before .before .before .before .pre .1), c .before .before .before .before .pre .0 .1)
+add-k c = let start : tie.Start Inv-loop μ-loop = search in omega (arith, digits-lt (c .loop-test .taken) (start .pre .1), start .pre .0 .1)
 
 owns-at-requires : tie.Need-owns-at-requires Inv-loop μ-loop
-owns-at-requires c κs = (c .before .before .before .before .pre .0, digits-lt (c .loop-test .taken) (c .before .before .before .before .pre .1))
+owns-at-requires c κs = let start : tie.Start Inv-loop μ-loop = search in (start .pre .0, digits-lt (c .loop-test .taken) (start .pre .1))
 
 returns : tie.Need-returns Inv-loop μ-loop
 unfolding ownedAt
-returns c = seeking-found _ (c .before .before .before .loop .inv) (c .before .before .loop-test .taken) (c .before .owns-at .ensures) (c .if1 .taken)
+returns c =
+    let in-loop : tie.In-loop Inv-loop μ-loop = search in let at-loop : tie.At-loop Inv-loop μ-loop = search in
+    seeking-found _ (at-loop .loop .inv) (in-loop .loop-test .taken) (c .before .owns-at .ensures) (c .if1 .taken)
 
 add-port : tie.Need-add-port Inv-loop μ-loop
-add-port c = omega (arith, c .before .before .loop-test .taken)
+add-port c = let in-loop : tie.In-loop Inv-loop μ-loop = search in omega (arith, in-loop .loop-test .taken)
 
 loop-less : tie.Need-loop-less Inv-loop μ-loop
-loop-less c = omega (arith, c .before .before .loop-test .taken)
+loop-less c = let in-loop : tie.In-loop Inv-loop μ-loop = search in omega (arith, in-loop .loop-test .taken)
 
 loop-again : tie.Need-loop-again Inv-loop μ-loop
-loop-again c = seeking-more _ (c .before .before .before .loop .inv) (c .before .before .loop-test .taken) (c .before .owns-at .ensures) (c .if1 .left)
+loop-again c =
+    let in-loop : tie.In-loop Inv-loop μ-loop = search in let at-loop : tie.At-loop Inv-loop μ-loop = search in
+    seeking-more _ (at-loop .loop .inv) (in-loop .loop-test .taken) (c .before .owns-at .ensures) (c .if1 .left)
 
 returns-2 : tie.Need-returns-2 Inv-loop μ-loop
 unfolding ownedAt

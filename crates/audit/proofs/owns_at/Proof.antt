@@ -7,7 +7,9 @@ use Rattle.audit.proofs.owns_at.Tie as tie
 
 returns : tie.Need-returns
 unfolding ownsAt
-returns c = rw (c .is-owner .ensures, c .before .class-of .ensures, tag-is _ _ (c .before .before .before .before .before .before .pre .1) (c .before .before .before .tag-at .ensures))
+returns c =
+    let after-tag-at : tie.After-tag-at = search in let start : tie.Start = search in
+    rw (c .is-owner .ensures, c .before .class-of .ensures, tag-is _ _ (start .pre .1) (after-tag-at .tag-at .ensures))
 
 pub owns-at-spec : {M : Type 1} → statement M
 owns-at-spec =

@@ -9,11 +9,16 @@ use Rattle.audit.proofs.pair_passes.Tie as tie
 
 returns : tie.Need-returns
 unfolding tablesIn
-returns c = pair-away _ _ _ (λ same. c .if1 .taken (sym (tag-is _ _ (c .before .before .before .before .before .before .pre .1) (c .before .before .tag-at .ensures)) ∙ same))
+returns c =
+    let after-tag-at : tie.After-tag-at = search in let start : tie.Start = search in
+    pair-away _ _ _ (λ same. c .if1 .taken (sym (tag-is _ _ (start .pre .1) (after-tag-at .tag-at .ensures)) ∙ same))
 
 returns-2 : tie.Need-returns-2
 unfolding tablesIn
-returns-2 c = pair-here _ _ _ (tag-is _ _ (c .before .before .before .before .before .before .before .before .pre .1) (c .before .before .before .before .tag-at .ensures) ∙ c .before .before .if1 .left) (c .before .held-at .ensures) (c .goes-with .ensures)
+returns-2 c =
+    let else-1 : tie.Else1 = search in let after-tag-at : tie.After-tag-at = search in let start : tie.Start = search in
+    pair-here _ _ _ (tag-is _ _ (start .pre .1) (after-tag-at .tag-at .ensures) ∙ else-1 .if1 .left) (c .before .held-at .ensures)
+    (c .goes-with .ensures)
 
 pub pair-passes-spec : {M : Type 1} → statement M
 pair-passes-spec =
