@@ -21,7 +21,8 @@ use Rattle.model.proofs.Below.{lowest-cases}
 use Rattle.model.proofs.Entries.{entry-lt}
 use Rattle.model.proofs.Lent.{Lent, lent-facts, some-sets}
 
-module _ (s : Shape) (t : Model) (a : ℕ) {r : ℕ} (e : r ≡ refusalOf s (length (t .memory)) (length (t .tags)) (length (t .states)) (length (t .words))) where
+module _ (s : Shape) (t : Model) (a : ℕ) {r : ℕ} (e : r ≡ refusalOf s (length (t .memory)) (length (t .tags)) (length (t .states))
+    (length (t .words))) where
   refusal-is : r ≡ lentRefusal s t
   unfolding lentRefusal
   refusal-is = e
@@ -44,7 +45,8 @@ module _ (s : Shape) (t : Model) (a : ℕ) {r : ℕ} (e : r ≡ refusalOf s (len
       unfolding find
       find-unsound u = rw (← refusal-is, eq-eqb r 0 z, lt-leb _ _ h, ← column, not-true v u)
 
-      pub find-first : {d : Found} → not v ≡ false → d ≡ holderOr (lowest (holds s (model [] (t .tags) (t .states) []) a) (s .ports)) → d ≡ find s t a
+      pub find-first : {d : Found} → not v ≡ false → d ≡ holderOr (lowest (holds s (model [] (t .tags) (t .states) []) a) (s .ports))
+          → d ≡ find s t a
       unfolding find seen
       find-first u q = rw (← refusal-is, eq-eqb r 0 z, lt-leb _ _ h, ← column, not-false v u) q
 

@@ -81,7 +81,8 @@ module _ (s : Shape) (g h : List ℕ) (a p : ℕ) {x : Place} (e : x ≡ placeOf
       searching-more u = record { below = omega arith; nothing = rw (add-one, v .nothing, sym tested ∙ u) }
 
   -- And for soundness.
-  module _ (r : inRange s ≡ true) {b : Bool} (eb : b ≡ (isState (stateOf (getD h k 0)) && (not (valid (orInvalid (stateOf (getD h k 0)))) || ltb (getD g k 0) (x .limit)))) where
+  module _ (r : inRange s ≡ true) {b : Bool} (eb : b ≡ (isState (stateOf (getD h k 0)) &&
+      (not (valid (orInvalid (stateOf (getD h k 0)))) || ltb (getD g k 0) (x .limit)))) where
     sound-is : b ≡ soundBy s g h a p
     unfolding sound placeOf
     sound-is =
@@ -91,7 +92,8 @@ module _ (s : Shape) (g h : List ℕ) (a p : ℕ) {x : Place} (e : x ≡ placeOf
     module _ (v : Passing (soundBy s g h a) (s .ports) p) (q : p < s .ports) where
       pub passing-not : not b ≡ true → false ≡ columnSound s t a
       unfolding columnSound
-      passing-not u = sym (not-true _ (contra (allBelow (soundBy s g h a) (s .ports)) (λ z. below-all (soundBy s g h a) (s .ports) z p q) (ap not (sym sound-is) ∙ u)))
+      passing-not u = sym (not-true _ (contra (allBelow (soundBy s g h a) (s .ports)) (λ z. below-all (soundBy s g h a) (s .ports) z p q)
+          (ap not (sym sound-is) ∙ u)))
 
       pub passing-more : not b ≡ false → Passing (soundBy s g h a) (s .ports) (p + 1)
       unfolding allBelow

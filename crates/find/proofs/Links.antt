@@ -27,6 +27,7 @@ module _ (s : Shape) (a p : ℕ) {x : Place} (e : x ≡ placeOf s a) where
     entry-small = omega (arith, entry-there, bounded s h .entries-most)
 
 -- What is lent without refusal 2 or 3 is in range, and has the shape's sizes.
-pub accepted : (s : Shape) (m g h w : List ℕ) {r : ℕ} → r ≡ refusalOf s (length m) (length g) (length h) (length w) → r ≡ 0 → Lent s (model m g h w)
+pub accepted : (s : Shape) (m g h w : List ℕ) {r : ℕ} → r ≡ refusalOf s (length m) (length g) (length h) (length w) → r ≡ 0
+    → Lent s (model m g h w)
 unfolding lentRefusal
 accepted s m g h w e z = lent-facts s (model m g h w) (sym e ∙ z)

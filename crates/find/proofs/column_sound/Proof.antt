@@ -17,34 +17,59 @@ loop-holds : tie.Need-loop-holds Inv-loop μ-loop
 loop-holds c = passing-none _ _
 
 mul-k : tie.Need-mul-k Inv-loop μ-loop
-mul-k c = omega (arith, entry-small _ _ (c .before .before .before .loop .q) (c .before .before .before .before .place .ensures) (c .before .before .before .before .before .before .before .pre .0 .0) (c .before .if1 .taken))
+mul-k c =
+    let at-loop : tie.At-loop Inv-loop μ-loop = search in let after-place : tie.After-place Inv-loop μ-loop = search in
+    let start : tie.Start Inv-loop μ-loop = search in
+    omega (arith, entry-small _ _ (at-loop .loop .q) (after-place .place .ensures) (start .pre .0 .0) (c .before .if1 .taken))
 
 add-k : tie.Need-add-k Inv-loop μ-loop
-add-k c = omega (arith, entry-small _ _ (c .before .before .before .before .loop .q) (c .before .before .before .before .before .place .ensures) (c .before .before .before .before .before .before .before .before .pre .0 .0) (c .before .before .if1 .taken))
+add-k c =
+    let then-1 : tie.Then1 Inv-loop μ-loop = search in let at-loop : tie.At-loop Inv-loop μ-loop = search in
+    let after-place : tie.After-place Inv-loop μ-loop = search in let start : tie.Start Inv-loop μ-loop = search in
+    omega (arith, entry-small _ _ (at-loop .loop .q) (after-place .place .ensures) (start .pre .0 .0) (then-1 .if1 .taken))
 
 shared-slice-read-is-sound : tie.Need-shared-slice-read-is-sound Inv-loop μ-loop
-shared-slice-read-is-sound c = omega (arith, entry-there _ _ (c .before .before .before .before .before .loop .q) (c .before .before .before .before .before .before .place .ensures) (c .before .before .before .before .before .before .before .before .before .pre .0 .0) (c .before .before .before .if1 .taken), c .before .before .before .before .before .before .before .before .before .pre .1 .1)
+shared-slice-read-is-sound c =
+    let then-1 : tie.Then1 Inv-loop μ-loop = search in let at-loop : tie.At-loop Inv-loop μ-loop = search in
+    let after-place : tie.After-place Inv-loop μ-loop = search in let start : tie.Start Inv-loop μ-loop = search in
+    omega (arith, entry-there _ _ (at-loop .loop .q) (after-place .place .ensures) (start .pre .0 .0) (then-1 .if1 .taken), start .pre .1 .1)
 
 mul-is-sound : tie.Need-mul-is-sound Inv-loop μ-loop
-mul-is-sound c = omega (arith, entry-small _ _ (c .before .before .before .before .before .loop .q) (c .before .before .before .before .before .before .place .ensures) (c .before .before .before .before .before .before .before .before .before .pre .0 .0) (c .before .before .before .if1 .taken))
+mul-is-sound c =
+    let then-1 : tie.Then1 Inv-loop μ-loop = search in let at-loop : tie.At-loop Inv-loop μ-loop = search in
+    let after-place : tie.After-place Inv-loop μ-loop = search in let start : tie.Start Inv-loop μ-loop = search in
+    omega (arith, entry-small _ _ (at-loop .loop .q) (after-place .place .ensures) (start .pre .0 .0) (then-1 .if1 .taken))
 
 shared-slice-read-is-sound-2 : tie.Need-shared-slice-read-is-sound-2 Inv-loop μ-loop
-shared-slice-read-is-sound-2 c = omega (arith, entry-there _ _ (c .before .before .before .before .before .before .loop .q) (c .before .before .before .before .before .before .before .place .ensures) (c .before .before .before .before .before .before .before .before .before .before .pre .0 .0) (c .before .before .before .before .if1 .taken), c .before .before .before .before .before .before .before .before .before .before .pre .1 .0)
+shared-slice-read-is-sound-2 c =
+    let then-1 : tie.Then1 Inv-loop μ-loop = search in let at-loop : tie.At-loop Inv-loop μ-loop = search in
+    let after-place : tie.After-place Inv-loop μ-loop = search in let start : tie.Start Inv-loop μ-loop = search in
+    omega (arith, entry-there _ _ (at-loop .loop .q) (after-place .place .ensures) (start .pre .0 .0) (then-1 .if1 .taken), start .pre .1 .0)
 
 returns : tie.Need-returns Inv-loop μ-loop
-returns c = passing-not _ _ _ _ _ (c .before .before .before .before .before .before .before .before .before .place .ensures) (c .before .before .before .before .before .before .before .before .before .before .before .before .pre .0 .0) (c .before .is-sound .ensures) (c .before .before .before .before .before .before .before .before .loop .inv) (c .before .before .before .before .before .before .if1 .taken) (c .if2 .taken)
+returns c =
+    let then-1 : tie.Then1 Inv-loop μ-loop = search in let at-loop : tie.At-loop Inv-loop μ-loop = search in
+    let after-place : tie.After-place Inv-loop μ-loop = search in let start : tie.Start Inv-loop μ-loop = search in
+    passing-not _ _ _ _ _ (after-place .place .ensures) (start .pre .0 .0) (c .before .is-sound .ensures) (at-loop .loop .inv) (then-1 .if1 .taken)
+    (c .if2 .taken)
 
 add-q : tie.Need-add-q Inv-loop μ-loop
-add-q c = omega (arith, c .before .before .before .before .before .before .if1 .taken)
+add-q c = let then-1 : tie.Then1 Inv-loop μ-loop = search in omega (arith, then-1 .if1 .taken)
 
 loop-less : tie.Need-loop-less Inv-loop μ-loop
-loop-less c = omega (arith, c .before .before .before .before .before .before .if1 .taken)
+loop-less c = let then-1 : tie.Then1 Inv-loop μ-loop = search in omega (arith, then-1 .if1 .taken)
 
 loop-again : tie.Need-loop-again Inv-loop μ-loop
-loop-again c = passing-more _ _ _ _ _ (c .before .before .before .before .before .before .before .before .before .place .ensures) (c .before .before .before .before .before .before .before .before .before .before .before .before .pre .0 .0) (c .before .is-sound .ensures) (c .before .before .before .before .before .before .before .before .loop .inv) (c .before .before .before .before .before .before .if1 .taken) (c .if2 .left)
+loop-again c =
+    let then-1 : tie.Then1 Inv-loop μ-loop = search in let at-loop : tie.At-loop Inv-loop μ-loop = search in
+    let after-place : tie.After-place Inv-loop μ-loop = search in let start : tie.Start Inv-loop μ-loop = search in
+    passing-more _ _ _ _ _ (after-place .place .ensures) (start .pre .0 .0) (c .before .is-sound .ensures) (at-loop .loop .inv) (then-1 .if1 .taken)
+    (c .if2 .left)
 
 returns-2 : tie.Need-returns-2 Inv-loop μ-loop
-returns-2 c = passing-done _ _ _ _ _ (c .before .before .before .place .ensures) (c .before .before .loop .inv) (c .if1 .left)
+returns-2 c =
+    let at-loop : tie.At-loop Inv-loop μ-loop = search in let after-place : tie.After-place Inv-loop μ-loop = search in
+    passing-done _ _ _ _ _ (after-place .place .ensures) (at-loop .loop .inv) (c .if1 .left)
 
 pub column-sound-spec : {M : Type 1} → statement M
 column-sound-spec =

@@ -6,13 +6,19 @@ use Rattle.find.proofs.entry_number.Statement.{statement}
 use Rattle.find.proofs.entry_number.Tie as tie
 
 mul-result : tie.Need-mul-result
-mul-result c = omega (arith, entry-small (c .before .before .args .shape) _ (c .before .before .args .p) (c .before .place .ensures) (c .before .before .pre .0 .0) (c .before .before .pre .1))
+mul-result c =
+    let start : tie.Start = search in
+    omega (arith, entry-small (start .args .shape) _ (start .args .p) (c .before .place .ensures) (start .pre .0 .0) (start .pre .1))
 
 add-result : tie.Need-add-result
-add-result c = omega (arith, entry-small (c .before .before .before .args .shape) _ (c .before .before .before .args .p) (c .before .before .place .ensures) (c .before .before .before .pre .0 .0) (c .before .before .before .pre .1))
+add-result c =
+    let after-place : tie.After-place = search in let start : tie.Start = search in
+    omega (arith, entry-small (start .args .shape) _ (start .args .p) (after-place .place .ensures) (start .pre .0 .0) (start .pre .1))
 
 returns : tie.Need-returns
-returns c = entry-link (c .before .before .before .args .shape) _ _ (c .before .before .place .ensures)
+returns c =
+    let after-place : tie.After-place = search in let start : tie.Start = search in
+    entry-link (start .args .shape) _ _ (after-place .place .ensures)
 
 pub entry-number-spec : {M : Type 1} → statement M
 entry-number-spec =

@@ -10,23 +10,36 @@ returns : tie.Need-returns
 returns c = find-misfit _ _ _ (c .before .refusal .ensures) (c .if1 .taken)
 
 returns-2 : tie.Need-returns-2
-returns-2 c = find-far _ _ _ (c .before .before .before .refusal .ensures) (c .before .before .if1 .left) (c .if2 .taken)
+returns-2 c =
+    let else-1 : tie.Else1 = search in let after-refusal : tie.After-refusal = search in
+    find-far _ _ _ (after-refusal .refusal .ensures) (else-1 .if1 .left) (c .if2 .taken)
 
 column-sound-requires : tie.Need-column-sound-requires
-column-sound-requires c κs = let x = c .before .before .before .before .before .before .before .before .args in
-    let l = accepted _ (now (x .memory)) (now (x .tags)) (now (x .states)) (now (x .«data»)) (c .before .before .before .refusal .ensures) (c .before .before .if1 .left) in
+column-sound-requires c κs =
+    let else-1 : tie.Else1 = search in let after-refusal : tie.After-refusal = search in let start : tie.Start = search in
+    let x = start .args in
+    let l = accepted _ (now (x .memory)) (now (x .tags)) (now (x .states)) (now (x .«data»)) (after-refusal .refusal .ensures) (else-1 .if1 .left) in
     ((l .range, c .if2 .left), (l .sizes .tags, l .sizes .states))
 
 returns-3 : tie.Need-returns-3
-returns-3 c = find-unsound _ _ _ (c .before .before .before .before .before .refusal .ensures) (c .before .before .before .before .if1 .left) (c .before .before .if2 .left) (c .before .column-sound .ensures) (c .if3 .taken)
+returns-3 c =
+    let else-2 : tie.Else2 = search in let else-1 : tie.Else1 = search in let after-refusal : tie.After-refusal = search in
+    find-unsound _ _ _ (after-refusal .refusal .ensures) (else-1 .if1 .left) (else-2 .if2 .left) (c .before .column-sound .ensures) (c .if3 .taken)
 
 first-holder-requires : tie.Need-first-holder-requires
-first-holder-requires c κs = let x = c .before .before .before .before .before .before .before .before .before .before .args in
-    let l = accepted _ (now (x .memory)) (now (x .tags)) (now (x .states)) (now (x .«data»)) (c .before .before .before .before .before .refusal .ensures) (c .before .before .before .before .if1 .left) in
-    ((l .range, c .before .before .if2 .left), (l .sizes .tags, l .sizes .states))
+first-holder-requires c κs =
+    let else-2 : tie.Else2 = search in let else-1 : tie.Else1 = search in let after-refusal : tie.After-refusal = search in
+    let start : tie.Start = search in
+    let x = start .args in
+    let l = accepted _ (now (x .memory)) (now (x .tags)) (now (x .states)) (now (x .«data»)) (after-refusal .refusal .ensures) (else-1 .if1 .left) in
+    ((l .range, else-2 .if2 .left), (l .sizes .tags, l .sizes .states))
 
 returns-4 : tie.Need-returns-4
-returns-4 c = find-first _ _ _ (c .before .before .before .before .before .before .refusal .ensures) (c .before .before .before .before .before .if1 .left) (c .before .before .before .if2 .left) (c .before .before .column-sound .ensures) (c .before .if3 .left) (c .first-holder .ensures)
+returns-4 c =
+    let after-column-sound : tie.After-column-sound = search in let else-2 : tie.Else2 = search in let else-1 : tie.Else1 = search in
+    let after-refusal : tie.After-refusal = search in
+    find-first _ _ _ (after-refusal .refusal .ensures) (else-1 .if1 .left) (else-2 .if2 .left) (after-column-sound .column-sound .ensures)
+    (c .before .if3 .left) (c .first-holder .ensures)
 
 pub find-line-spec : {M : Type 1} → statement M
 find-line-spec =

@@ -19,34 +19,57 @@ loop-holds : tie.Need-loop-holds Inv-loop μ-loop
 loop-holds c = searching-none _ _
 
 mul-k : tie.Need-mul-k Inv-loop μ-loop
-mul-k c = omega (arith, entry-small _ _ (c .before .before .before .loop .p) (c .before .before .before .before .place .ensures) (c .before .before .before .before .before .before .before .pre .0 .0) (c .before .if1 .taken))
+mul-k c =
+    let at-loop : tie.At-loop Inv-loop μ-loop = search in let after-place : tie.After-place Inv-loop μ-loop = search in
+    let start : tie.Start Inv-loop μ-loop = search in
+    omega (arith, entry-small _ _ (at-loop .loop .p) (after-place .place .ensures) (start .pre .0 .0) (c .before .if1 .taken))
 
 add-k : tie.Need-add-k Inv-loop μ-loop
-add-k c = omega (arith, entry-small _ _ (c .before .before .before .before .loop .p) (c .before .before .before .before .before .place .ensures) (c .before .before .before .before .before .before .before .before .pre .0 .0) (c .before .before .if1 .taken))
+add-k c =
+    let then-1 : tie.Then1 Inv-loop μ-loop = search in let at-loop : tie.At-loop Inv-loop μ-loop = search in
+    let after-place : tie.After-place Inv-loop μ-loop = search in let start : tie.Start Inv-loop μ-loop = search in
+    omega (arith, entry-small _ _ (at-loop .loop .p) (after-place .place .ensures) (start .pre .0 .0) (then-1 .if1 .taken))
 
 mul-here : tie.Need-mul-here Inv-loop μ-loop
-mul-here c = omega (arith, entry-small _ _ (c .before .before .before .before .loop .p) (c .before .before .before .before .before .place .ensures) (c .before .before .before .before .before .before .before .before .pre .0 .0) (c .before .before .if1 .taken))
+mul-here c =
+    let then-1 : tie.Then1 Inv-loop μ-loop = search in let at-loop : tie.At-loop Inv-loop μ-loop = search in
+    let after-place : tie.After-place Inv-loop μ-loop = search in let start : tie.Start Inv-loop μ-loop = search in
+    omega (arith, entry-small _ _ (at-loop .loop .p) (after-place .place .ensures) (start .pre .0 .0) (then-1 .if1 .taken))
 
 shared-slice-read-here : tie.Need-shared-slice-read-here Inv-loop μ-loop
-shared-slice-read-here c = omega (arith, entry-there _ _ (c .before .before .before .before .before .loop .p) (c .before .before .before .before .before .before .place .ensures) (c .before .before .before .before .before .before .before .before .before .pre .0 .0) (c .before .before .before .if1 .taken), c .before .before .before .before .before .before .before .before .before .pre .1 .0)
+shared-slice-read-here c =
+    let then-1 : tie.Then1 Inv-loop μ-loop = search in let at-loop : tie.At-loop Inv-loop μ-loop = search in
+    let after-place : tie.After-place Inv-loop μ-loop = search in let start : tie.Start Inv-loop μ-loop = search in
+    omega (arith, entry-there _ _ (at-loop .loop .p) (after-place .place .ensures) (start .pre .0 .0) (then-1 .if1 .taken), start .pre .1 .0)
 
 shared-slice-read-byte-state : tie.Need-shared-slice-read-byte-state Inv-loop μ-loop
-shared-slice-read-byte-state c = omega (arith, entry-there _ _ (c .before .before .before .before .before .before .before .loop .p) (c .before .before .before .before .before .before .before .before .place .ensures) (c .before .before .before .before .before .before .before .before .before .before .before .pre .0 .0) (c .before .before .before .before .before .if1 .taken), c .before .before .before .before .before .before .before .before .before .before .before .pre .1 .1)
+shared-slice-read-byte-state c =
+    let then-1 : tie.Then1 Inv-loop μ-loop = search in let at-loop : tie.At-loop Inv-loop μ-loop = search in
+    let after-place : tie.After-place Inv-loop μ-loop = search in let start : tie.Start Inv-loop μ-loop = search in
+    omega (arith, entry-there _ _ (at-loop .loop .p) (after-place .place .ensures) (start .pre .0 .0) (then-1 .if1 .taken), start .pre .1 .1)
 
 returns : tie.Need-returns Inv-loop μ-loop
-returns c = searching-found _ _ _ _ _ (c .before .before .before .before .before .before .before .before .before .before .before .place .ensures) (c .before .before .byte-state .ensures) (c .before .is-valid .ensures) (c .before .before .before .before .before .before .before .before .before .before .loop .inv) (c .before .before .before .before .before .before .before .before .if1 .taken) (c .if2 .taken)
+returns c =
+    let after-byte-state : tie.After-byte-state Inv-loop μ-loop = search in let then-1 : tie.Then1 Inv-loop μ-loop = search in
+    let at-loop : tie.At-loop Inv-loop μ-loop = search in let after-place : tie.After-place Inv-loop μ-loop = search in
+    searching-found _ _ _ _ _ (after-place .place .ensures) (after-byte-state .byte-state .ensures) (c .before .is-valid .ensures)
+    (at-loop .loop .inv) (then-1 .if1 .taken) (c .if2 .taken)
 
 add-p : tie.Need-add-p Inv-loop μ-loop
-add-p c = omega (arith, c .before .before .before .before .before .before .before .before .if1 .taken)
+add-p c = let then-1 : tie.Then1 Inv-loop μ-loop = search in omega (arith, then-1 .if1 .taken)
 
 loop-less : tie.Need-loop-less Inv-loop μ-loop
-loop-less c = omega (arith, c .before .before .before .before .before .before .before .before .if1 .taken)
+loop-less c = let then-1 : tie.Then1 Inv-loop μ-loop = search in omega (arith, then-1 .if1 .taken)
 
 loop-again : tie.Need-loop-again Inv-loop μ-loop
-loop-again c = searching-more _ _ _ _ _ (c .before .before .before .before .before .before .before .before .before .before .before .place .ensures) (c .before .before .byte-state .ensures) (c .before .is-valid .ensures) (c .before .before .before .before .before .before .before .before .before .before .loop .inv) (c .before .before .before .before .before .before .before .before .if1 .taken) (c .if2 .left)
+loop-again c =
+    let after-byte-state : tie.After-byte-state Inv-loop μ-loop = search in let then-1 : tie.Then1 Inv-loop μ-loop = search in
+    let at-loop : tie.At-loop Inv-loop μ-loop = search in let after-place : tie.After-place Inv-loop μ-loop = search in
+    searching-more _ _ _ _ _ (after-place .place .ensures) (after-byte-state .byte-state .ensures) (c .before .is-valid .ensures) (at-loop .loop .inv)
+    (then-1 .if1 .taken) (c .if2 .left)
 
 returns-2 : tie.Need-returns-2 Inv-loop μ-loop
-returns-2 c = searching-done (c .before .before .loop .inv) (c .if1 .left)
+returns-2 c = let at-loop : tie.At-loop Inv-loop μ-loop = search in searching-done (at-loop .loop .inv) (c .if1 .left)
 
 pub first-holder-spec : {M : Type 1} → statement M
 first-holder-spec =

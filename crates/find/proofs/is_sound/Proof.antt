@@ -4,7 +4,9 @@ use Rattle.find.proofs.is_sound.Statement.{statement}
 use Rattle.find.proofs.is_sound.Tie as tie
 
 returns : tie.Need-returns
-returns c = rw (c .is-valid .ensures, c .before .is-state .ensures, c .before .before .byte-state .ensures)
+returns c =
+    let after-byte-state : tie.After-byte-state = search in
+    rw (c .is-valid .ensures, c .before .is-state .ensures, after-byte-state .byte-state .ensures)
 
 pub is-sound-spec : {M : Type 1} → statement M
 is-sound-spec =

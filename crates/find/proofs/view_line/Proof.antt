@@ -7,23 +7,39 @@ use Rattle.find.proofs.view_line.Tie as tie
 
 entry-number-requires : tie.Need-entry-number-requires
 entry-number-requires c κs =
-    let h = port-there _ _ _ (c .before .before .before .find-line .ensures) _ (c .before .found .given .1) in
+    let after-find-line : tie.After-find-line = search in
+    let h = port-there _ _ _ (after-find-line .find-line .ensures) _ (c .before .found .given .1) in
     ((h .lent .range, h .line), omega (arith, h .port))
 
 one-word-requires : tie.Need-one-word-requires
-one-word-requires c κs = omega (arith, c .entry-number .ensures, in-words _ _ _ _ (port-there _ _ _ (c .before .before .before .before .find-line .ensures) _ (c .before .before .found .given .1)))
+one-word-requires c κs =
+    let after-found : tie.After-found = search in let after-find-line : tie.After-find-line = search in
+    omega (
+      arith,
+      c .entry-number .ensures,
+      in-words _ _ _ _ (port-there _ _ _ (after-find-line .find-line .ensures) _
+          (after-found .found .given .1)),
+    )
 
 one-word-requires-2 : tie.Need-one-word-requires-2
-one-word-requires-2 c κs = omega (arith, in-memory _ _ _ (memory-there _ _ _ (c .before .before .find-line .ensures) (c .enum-told2 .given .1)))
+one-word-requires-2 c κs =
+    let after-find-line : tie.After-find-line = search in
+    omega (arith, in-memory _ _ _ (memory-there _ _ _ (after-find-line .find-line .ensures) (c .enum-told2 .given .1)))
 
 returns : tie.Need-returns
-returns c = view-none _ _ _ (c .before .before .before .find-line .ensures) _ (c .before .enum-told .given .1)
+returns c =
+    let after-find-line : tie.After-find-line = search in
+    view-none _ _ _ (after-find-line .find-line .ensures) _ (c .before .enum-told .given .1)
 
 returns-2 : tie.Need-returns-2
-returns-2 c = view-port _ _ _ (c .before .before .before .before .before .find-line .ensures) _ (c .before .before .before .found .given .1) (c .before .entry-number .ensures) (c .one-word .ensures)
+returns-2 c =
+    let after-found : tie.After-found = search in let after-find-line : tie.After-find-line = search in
+    view-port _ _ _ (after-find-line .find-line .ensures) _ (after-found .found .given .1) (c .before .entry-number .ensures) (c .one-word .ensures)
 
 returns-3 : tie.Need-returns-3
-returns-3 c = view-memory _ _ _ (c .before .before .before .find-line .ensures) (c .before .enum-told2 .given .1) (c .one-word2 .ensures)
+returns-3 c =
+    let after-find-line : tie.After-find-line = search in
+    view-memory _ _ _ (after-find-line .find-line .ensures) (c .before .enum-told2 .given .1) (c .one-word2 .ensures)
 
 pub view-line-spec : {M : Type 1} → statement M
 view-line-spec =
