@@ -15,11 +15,13 @@ use Rattle.model.proofs.Decoded.{Sound, decode-sound}
 use Rattle.decode.specs.Order.{There, refusalIn}
 
 module _ (s : Shape) (o : Order) (t : Model) where
-  pub step-refused : lentRefusal s t ≡ 0 → {d : Decoded} {n k : ℕ} → d ≡ decode s o → d ≡ Refused n → k ≡ refusalIn d → {r : Answer} → r ≡ refused k → result r t ≡ step s o t
+  pub step-refused : lentRefusal s t ≡ 0 → {d : Decoded} {n k : ℕ} → d ≡ decode s o → d ≡ Refused n → k ≡ refusalIn d
+      → {r : Answer} → r ≡ refused k → result r t ≡ step s o t
   unfolding step perform
   step-refused h e f g i = rw (i, g, f, eq-eqb (lentRefusal s t) 0 h, ← e, f)
 
-  pub step-asked : lentRefusal s t ≡ 0 → {d : Decoded} {c : Call} → d ≡ decode s o → d ≡ Asked c → {x : Result} → x ≡ perform s t (Asked c) → x ≡ step s o t
+  pub step-asked : lentRefusal s t ≡ 0 → {d : Decoded} {c : Call} → d ≡ decode s o → d ≡ Asked c → {x : Result}
+      → x ≡ perform s t (Asked c) → x ≡ step s o t
   unfolding step
   step-asked h e f g = g ∙ rw (eq-eqb (lentRefusal s t) 0 h, ← e, f)
 

@@ -7,25 +7,42 @@ use Rattle.step.proofs.perform_call.Statement.{statement}
 use Rattle.step.proofs.perform_call.Tie as tie
 
 access-line-requires : tie.Need-access-line-requires
-access-line-requires c κs = (c .before .before .before .before .before .before .before .before .before .before .before .pre .0, rw (c .before .before .before .before .before .call .given .1) at (c .before .before .before .before .before .before .before .before .before .before .before .pre .1))
+access-line-requires c κs =
+    let after-call : tie.After-call = search in let start : tie.Start = search in
+    (start .pre .0, rw (after-call .call .given .1) at (start .pre .1))
 
 flush-line-requires : tie.Need-flush-line-requires
-flush-line-requires c κs = (c .before .before .before .before .before .before .before .before .before .before .before .pre .0, rw (c .before .before .before .before .before .call2 .given .1) at (c .before .before .before .before .before .before .before .before .before .before .before .pre .1))
+flush-line-requires c κs =
+    let after-call2 : tie.After-call2 = search in let start : tie.Start = search in
+    (start .pre .0, rw (after-call2 .call2 .given .1) at (start .pre .1))
 
 device-read-requires : tie.Need-device-read-requires
-device-read-requires c κs = in-memory (c .before .before .before .before .before .before .before .before .pre .0) (rw (c .before .before .call3 .given .1) at (c .before .before .before .before .before .before .before .before .pre .1))
+device-read-requires c κs =
+    let after-call3 : tie.After-call3 = search in let start : tie.Start = search in
+    in-memory (start .pre .0) (rw (after-call3 .call3 .given .1) at (start .pre .1))
 
 returns : tie.Need-returns
 unfolding perform
-returns c = rw (c .before .before .before .before .before .before .before .before .before .before .before .before .before .before .call .given .1) (c .before .before .before .before .before .before .before .before .access-line .ensures)
+returns c =
+    let after-access-line : tie.After-access-line = search in let after-call : tie.After-call = search in
+    rw (after-call .call .given .1) (after-access-line .access-line .ensures)
 
 returns-2 : tie.Need-returns-2
 unfolding perform
-returns-2 c = rw (c .before .before .before .before .before .before .before .before .before .before .call2 .given .1) (c .before .before .before .before .flush-line .ensures)
+returns-2 c =
+    let after-flush-line : tie.After-flush-line = search in let after-call2 : tie.After-call2 = search in
+    rw (after-call2 .call2 .given .1) (after-flush-line .flush-line .ensures)
 
 returns-3 : tie.Need-returns-3
 unfolding perform
-returns-3 c = rw (c .before .before .before .call3 .given .1, c .device-read .ensures, ← memory-word (c .before .before .before .before .before .before .before .before .before .pre .0) (rw (c .before .before .before .call3 .given .1) at (c .before .before .before .before .before .before .before .before .before .pre .1)) refl)
+returns-3 c =
+    let after-call3 : tie.After-call3 = search in let start : tie.Start = search in
+    rw (
+      after-call3 .call3 .given .1,
+      c .device-read .ensures,
+      ← memory-word (start .pre .0) (rw (after-call3 .call3 .given .1) at (start .pre .1))
+          refl,
+    )
 
 pub perform-call-spec : {M : Type 1} → statement M
 perform-call-spec =
