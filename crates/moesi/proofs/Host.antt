@@ -80,15 +80,23 @@ AreBytes l = (k : ℕ) → getD l k 0 < 256
 same-lent : {s : Shape} {b : Bytes} → Fitting s b → AreBytes (b .memory) → AreBytes (b .tags) → AreBytes (b .words) → inBytes (modelIn s b) ≡ b
 unfolding inBytes modelIn
 same-lent {s} {b} f m g d =
-    rw (same-bytes 8 (s .lines) (b .memory) m (f .memory-fits), same-bytes 4 (entries s) (b .tags) g (f .filled .tags-fit), same-bytes 8 (entries s) (b .words) d (f .filled .words-fit))
+    rw (
+      same-bytes 8 (s .lines) (b .memory) m (f .memory-fits),
+      same-bytes 4 (entries s) (b .tags) g (f .filled .tags-fit),
+      same-bytes 8 (entries s)
+          (b .words) d (f .filled .words-fit),
+    )
 
-five-set : (x₀ x₁ x₂ x₃ x₄ : ℕ) (m : List ℕ) → set (set (set (set (set (numbers 8 5 m) 0 x₀) 1 x₁) 2 x₂) 3 x₃) 4 x₄ ≡ x₀ ∷ x₁ ∷ x₂ ∷ x₃ ∷ x₄ ∷ []
+five-set : (x₀ x₁ x₂ x₃ x₄ : ℕ) (m : List ℕ) → set (set (set (set (set (numbers 8 5 m) 0 x₀) 1 x₁) 2 x₂) 3 x₃) 4 x₄
+    ≡ x₀ ∷ x₁ ∷ x₂ ∷ x₃ ∷ x₄ ∷ []
 unfolding numbers
 five-set x₀ x₁ x₂ x₃ x₄ m = refl
 
 -- The five numbers stored one after the other.
-pub answer-stored : (a : Answer) (l : List ℕ) → length l ≡ 40 → a .refusal < 2 ^ 64 → a .value < 2 ^ 64 → a .swapped < 2 ^ 64 → a .reads < 2 ^ 64 → a .writes < 2 ^ 64
-    → {l₁ l₂ l₃ l₄ l₅ : List ℕ} → l₁ ≡ sets l 0 (bytesOf 8 (a .refusal)) → l₂ ≡ sets l₁ 8 (bytesOf 8 (a .value)) → l₃ ≡ sets l₂ 16 (bytesOf 8 (a .swapped))
+pub answer-stored : (a : Answer) (l : List ℕ) → length l ≡ 40 → a .refusal < 2 ^ 64 → a .value < 2 ^ 64 → a .swapped < 2 ^ 64
+    → a .reads < 2 ^ 64 → a .writes < 2 ^ 64
+    → {l₁ l₂ l₃ l₄ l₅ : List ℕ} → l₁ ≡ sets l 0 (bytesOf 8 (a .refusal)) → l₂ ≡ sets l₁ 8 (bytesOf 8 (a .value))
+    → l₃ ≡ sets l₂ 16 (bytesOf 8 (a .swapped))
     → l₄ ≡ sets l₃ 24 (bytesOf 8 (a .reads)) → l₅ ≡ sets l₄ 32 (bytesOf 8 (a .writes)) → AreBytes l₅ → l₅ ≡ answerBytes a
 unfolding answerBytes
 answer-stored a l n f₀ f₁ f₂ f₃ f₄ {l₁} {l₂} {l₃} {l₄} {l₅} e₁ e₂ e₃ e₄ e₅ b =
@@ -98,16 +106,19 @@ answer-stored a l n f₀ f₁ f₂ f₃ f₄ {l₁} {l₂} {l₃} {l₄} {l₅} 
     let s₃ = stored-at 3 l₃ (s₂ .0) (a .reads) f₃ e₄ (omega arith) in
     let s₄ = stored-at 4 l₄ (s₃ .0) (a .writes) f₄ e₅ (omega arith) in
     sym (same-bytes 8 5 l₅ b (s₄ .0))
-    ∙ ap (encoded 8) (s₄ .1 ∙ ap (λ (x : List ℕ). set x 4 (a .writes)) (s₃ .1 ∙ ap (λ (x : List ℕ). set x 3 (a .reads)) (s₂ .1 ∙ ap (λ (x : List ℕ). set x 2 (a .swapped)) (s₁ .1
+    ∙ ap (encoded 8) (s₄ .1 ∙ ap (λ (x : List ℕ). set x 4 (a .writes))
+    (s₃ .1 ∙ ap (λ (x : List ℕ). set x 3 (a .reads)) (s₂ .1 ∙ ap (λ (x : List ℕ). set x 2 (a .swapped)) (s₁ .1
     ∙ ap (λ (x : List ℕ). set x 1 (a .value)) (s₀ .1)))) ∙ five-set (a .refusal) (a .value) (a .swapped) (a .reads) (a .writes) l)
   where
-    stored-at : (k : ℕ) (m : List ℕ) → length m ≡ 40 → (x : ℕ) → x < 2 ^ 64 → {m' : List ℕ} → m' ≡ sets m (8 * k) (bytesOf 8 x) → k < 5 → (length m' ≡ 40) × (numbers 8 5 m' ≡ set (numbers 8 5 m) k x)
+    stored-at : (k : ℕ) (m : List ℕ) → length m ≡ 40 → (x : ℕ) → x < 2 ^ 64 → {m' : List ℕ} → m' ≡ sets m (8 * k) (bytesOf 8 x)
+        → k < 5 → (length m' ≡ 40) × (numbers 8 5 m' ≡ set (numbers 8 5 m) k x)
     stored-at k m n x f e q = (ap length e ∙ length-sets m (8 * k) (bytesOf 8 x) ∙ n, rw e (set-numbers 8 5 k x m q (omega arith) (omega arith)))
 
 -- A call of step: accepted, refused with the answer written, refused with a slice of another length.
 module _ (s : Shape) (o : Order) (b : Bytes) (out : List ℕ) {n : ℕ} (en : n ≡ hostRefusal s b (eqb (length out) 40)) where
   pub step-accepted : n ≡ 0 → {x : Answer} {b' : Bytes} {out' : List ℕ} → result x (modelIn s b') ≡ step s o (modelIn s b)
-      → length (b' .memory) ≡ length (b .memory) → length (b' .tags) ≡ length (b .tags) → length (b' .states) ≡ length (b .states) → length (b' .words) ≡ length (b .words)
+      → length (b' .memory) ≡ length (b .memory) → length (b' .tags) ≡ length (b .tags) → length (b' .states) ≡ length (b .states)
+      → length (b' .words) ≡ length (b .words)
       → AreBytes (b' .memory) → AreBytes (b' .tags) → AreBytes (b' .words) → out' ≡ answerBytes x
       → hosted (x .refusal) b' out' ≡ hostStep s o b out
   unfolding hostStep
@@ -115,7 +126,8 @@ module _ (s : Shape) (o : Order) (b : Bytes) (out : List ℕ) {n : ℕ} (en : n 
       let f = refitted b' (fitting s b (eqb (length out) 40) (sym en ∙ z)) em eg eh ed in
       rw (← en, eq-eqb n 0 z, ← e, same-lent f m g d, ea)
 
-  pub step-answered : n ≢ 0 → eqb (length out) 40 ≡ true → {out' : List ℕ} → out' ≡ answerBytes (refused n) → hosted n b out' ≡ hostStep s o b out
+  pub step-answered : n ≢ 0 → eqb (length out) 40 ≡ true → {out' : List ℕ} → out' ≡ answerBytes (refused n)
+      → hosted n b out' ≡ hostStep s o b out
   unfolding hostStep
   step-answered h w f = rw (← en, ne-eqb n 0 h, w, f)
 
@@ -138,12 +150,26 @@ encoded-zeros w (suc n) =
 
 -- A call of fresh.
 module _ (s : Shape) (b : Bytes) {n : ℕ} (en : n ≡ hostRefusal s b true) where
-  pub fresh-accepted : n ≡ 0 → AreBytes (b .memory) → {g h d : List ℕ} → g ≡ replicate (length (b .tags)) 0 → h ≡ replicate (length (b .states)) 0 → d ≡ replicate (length (b .words)) 0
+  pub fresh-accepted : n ≡ 0 → AreBytes (b .memory) → {g h d : List ℕ} → g ≡ replicate (length (b .tags)) 0
+      → h ≡ replicate (length (b .states)) 0 → d ≡ replicate (length (b .words)) 0
       → hosted n (bytes (b .memory) g h d) [] ≡ hostFresh s b
   unfolding hostFresh fresh zeroed modelIn inBytes
   fresh-accepted z m eg eh ed =
       let f = fitting s b true (sym en ∙ z) in
-      rw (← en, eq-eqb n 0 z, eq-eqb (lentRefusal s (modelIn s b)) 0 (lent f), eg, eh, ed, f .filled .tags-fit, f .filled .states-fit, f .filled .words-fit, encoded-zeros 4 (entries s), encoded-zeros 8 (entries s), same-bytes 8 (s .lines) (b .memory) m (f .memory-fits))
+      rw (
+        ← en,
+        eq-eqb n 0 z,
+        eq-eqb (lentRefusal s (modelIn s b)) 0 (lent f),
+        eg,
+        eh,
+        ed,
+        f .filled .tags-fit,
+        f .filled .states-fit,
+        f .filled .words-fit,
+        encoded-zeros 4 (entries s),
+        encoded-zeros 8 (entries s),
+        same-bytes 8 (s .lines) (b .memory) m (f .memory-fits),
+      )
 
   pub fresh-refused : n ≢ 0 → hosted n b [] ≡ hostFresh s b
   unfolding hostFresh

@@ -7,13 +7,17 @@ use Rattle.moesi.proofs.bytes_fit.Statement.{statement}
 use Rattle.moesi.proofs.bytes_fit.Tie as tie
 
 mul-result : tie.Need-mul-result
-mul-result c = omega (arith, (bounded (c .before .before .args .shape) (c .before .before .pre)) .lines)
+mul-result c = let start : tie.Start = search in omega (arith, (bounded (start .args .shape) (start .pre)) .lines)
 
 mul-result-2 : tie.Need-mul-result-2
-mul-result-2 c = omega (arith, (c .before .entries .ensures), (bounded (c .before .before .args .shape) (c .before .before .pre)) .entries-most)
+mul-result-2 c =
+    let start : tie.Start = search in
+    omega (arith, (c .before .entries .ensures), (bounded (start .args .shape) (start .pre)) .entries-most)
 
 mul-result-3 : tie.Need-mul-result-3
-mul-result-3 c = omega (arith, (c .before .entries .ensures), (bounded (c .before .before .args .shape) (c .before .before .pre)) .entries-most)
+mul-result-3 c =
+    let start : tie.Start = search in
+    omega (arith, (c .before .entries .ensures), (bounded (start .args .shape) (start .pre)) .entries-most)
 
 returns : tie.Need-returns
 unfolding bytesFit

@@ -11,22 +11,36 @@ put-answer-requires : tie.Need-put-answer-requires
 put-answer-requires c κs = eqb-true _ _ (c .before .if2 .taken)
 
 returns : tie.Need-returns
-returns c = step-answered _ _ _ _ (c .before .before .before .before .before .before .refusal-by .ensures) (c .before .before .before .before .before .if1 .taken) (c .before .before .before .before .if2 .taken) (c .before .before .put-answer .ensures)
+returns c =
+    let after-put-answer : tie.After-put-answer = search in let then-2 : tie.Then2 = search in let then-1 : tie.Then1 = search in
+    let after-refusal-by : tie.After-refusal-by = search in
+    step-answered _ _ _ _ (after-refusal-by .refusal-by .ensures) (then-1 .if1 .taken) (then-2 .if2 .taken) (after-put-answer .put-answer .ensures)
 
 returns-2 : tie.Need-returns-2
-returns-2 c = step-unanswered _ _ _ _ (c .before .before .refusal-by .ensures) (c .before .if1 .taken) (c .if2 .left)
+returns-2 c =
+    let after-refusal-by : tie.After-refusal-by = search in
+    step-unanswered _ _ _ _ (after-refusal-by .refusal-by .ensures) (c .before .if1 .taken) (c .if2 .left)
 
 step-order-requires : tie.Need-step-order-requires
-step-order-requires c κs = fitting _ _ _ (sym (c .before .before .before .before .before .refusal-by .ensures) ∙ (c .before .before .before .before .if1 .left))
+step-order-requires c κs =
+    let else-1 : tie.Else1 = search in let after-refusal-by : tie.After-refusal-by = search in
+    fitting _ _ _ (sym (after-refusal-by .refusal-by .ensures) ∙ (else-1 .if1 .left))
 
 put-answer-requires-2 : tie.Need-put-answer-requires-2
-put-answer-requires-2 c κs = eqb-true _ _ (out-fits _ _ _ _ _ _ (c .before .before .before .before .before .before .before .before .before .before .before .before .before .before .before .refusal-by .ensures) (c .before .before .before .before .before .before .before .before .before .before .before .before .before .before .if1 .left))
+put-answer-requires-2 c κs =
+    let else-1 : tie.Else1 = search in let after-refusal-by : tie.After-refusal-by = search in
+    eqb-true _ _ (out-fits _ _ _ _ _ _ (after-refusal-by .refusal-by .ensures) (else-1 .if1 .left))
 
 returns-3 : tie.Need-returns-3
 returns-3 c =
-    let k = (c .before .before .before .before .before .before .before .before .before .before .before .before .step-order .kept) in
-    step-accepted _ _ _ _ (c .before .before .before .before .before .before .before .before .before .before .before .before .before .before .before .before .before .before .refusal-by .ensures) (c .before .before .before .before .before .before .before .before .before .before .before .before .before .before .before .before .before .if1 .left) (c .before .before .before .before .before .before .before .before .before .before .before .before .step-order .ensures) (k .1 .0) (k .1 .1 .0) (k .1 .1 .1 .0) (k .1 .1 .1 .1 .0)
-    (λ j. omega (arith, (c .before .before .before .before .before .before .before .before .before .before .slice-known7 .given) j)) (λ j. omega (arith, (c .before .before .before .before .before .before .before .before .slice-known8 .given) j)) (λ j. omega (arith, (c .before .before .before .before .slice-known10 .given) j)) (c .before .before .put-answer2 .ensures)
+    let after-put-answer2 : tie.After-put-answer2 = search in let after-slice-known10 : tie.After-slice-known10 = search in
+    let after-slice-known8 : tie.After-slice-known8 = search in let after-slice-known7 : tie.After-slice-known7 = search in
+    let after-step-order : tie.After-step-order = search in let else-1 : tie.Else1 = search in let after-refusal-by : tie.After-refusal-by = search in
+    let k = (after-step-order .step-order .kept) in
+    step-accepted _ _ _ _ (after-refusal-by .refusal-by .ensures) (else-1 .if1 .left) (after-step-order .step-order .ensures) (k .1 .0) (k .1 .1 .0)
+    (k .1 .1 .1 .0) (k .1 .1 .1 .1 .0) (λ j. omega (arith, (after-slice-known7 .slice-known7 .given) j))
+    (λ j. omega (arith, (after-slice-known8 .slice-known8 .given) j)) (λ j. omega (arith, (after-slice-known10 .slice-known10 .given) j))
+    (after-put-answer2 .put-answer2 .ensures)
 
 pub moesi-step-spec : {M : Type 1} → statement M
 moesi-step-spec =

@@ -10,11 +10,15 @@ bytes-fit-requires c κs = sym (c .before .is-in-range .ensures) ∙ (c .if1 .ta
 
 returns : tie.Need-returns
 unfolding refusalBy
-returns c = rw (← (c .before .before .before .is-in-range .ensures), (c .before .before .if1 .taken), ← (c .before .bytes-fit .ensures), (c .if2 .taken))
+returns c =
+    let then-1 : tie.Then1 = search in let after-is-in-range : tie.After-is-in-range = search in
+    rw (← (after-is-in-range .is-in-range .ensures), (then-1 .if1 .taken), ← (c .before .bytes-fit .ensures), (c .if2 .taken))
 
 returns-2 : tie.Need-returns-2
 unfolding refusalBy
-returns-2 c = rw (← (c .before .before .before .is-in-range .ensures), (c .before .before .if1 .taken), ← (c .before .bytes-fit .ensures), (c .if2 .left))
+returns-2 c =
+    let then-1 : tie.Then1 = search in let after-is-in-range : tie.After-is-in-range = search in
+    rw (← (after-is-in-range .is-in-range .ensures), (then-1 .if1 .taken), ← (c .before .bytes-fit .ensures), (c .if2 .left))
 
 returns-3 : tie.Need-returns-3
 unfolding refusalBy
