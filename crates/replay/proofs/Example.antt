@@ -17,5 +17,8 @@ use Rattle.replay.specs.Trace.{traceRefusal, orderAt, ordersOf, answersT
 use Rattle.replay.specs.Example.{example, ExampleHolds}
 
 pub example-holds : ExampleHolds
-unfolding code stateOf merge mergeLow effectAt rule flushRule snooped updates number bytesOf encoded inRange fits refusalOf decode checked callOf allBelow anyBelow orElse lowest atOr lentRefusal sound seen wordAt dirty columnSound putBelow shared wordFound fetches evictsOwner byteAfter wordAfter applied accessRule accessed flushed perform step zeroed entriesSound everyTwo linePasses tablesPass audit traceRefusal orderAt ordersOf modelRun answersTo start played answersOf example
+unfolding code stateOf merge mergeLow effectAt rule flushRule snooped updates number bytesOf encoded inRange fits refusalOf decode checked callOf
+    allBelow anyBelow orElse lowest atOr lentRefusal sound seen wordAt dirty columnSound putBelow shared wordFound fetches evictsOwner byteAfter
+    wordAfter applied accessRule accessed flushed perform step zeroed entriesSound everyTwo linePasses tablesPass audit traceRefusal orderAt ordersOf
+    modelRun answersTo start played answersOf example
 example-holds = (refl, refl)

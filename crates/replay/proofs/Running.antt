@@ -46,7 +46,8 @@ module _ (s : Shape) (ws xs : List ℕ) (n : ℕ) where
   module _ {b₀ b : Bytes} {a₀ a : List ℕ} {k : ℕ} (v : Running s ws xs n b₀ a₀ b a k) where
     pub running-more : k < n → {w x : ℕ} → w ≡ number 8 (drop (8 * k) ws) → x ≡ number 8 (drop (8 * k) xs)
         → {r : Answer} (c : Bytes) → result r (modelIn s c) ≡ step s (order w x) (modelIn s b)
-        → length (c .memory) ≡ length (b .memory) → length (c .tags) ≡ length (b .tags) → length (c .states) ≡ length (b .states) → length (c .words) ≡ length (b .words)
+        → length (c .memory) ≡ length (b .memory) → length (c .tags) ≡ length (b .tags) → length (c .states) ≡ length (b .states)
+        → length (c .words) ≡ length (b .words)
         → {d : List ℕ} → d ≡ sets a (5 * k) (five r) → Running s ws xs n b₀ a₀ c d (k + 1)
     unfolding ordersOf orderAt modelRun answersTo
     running-more h ew ex {r} c er em eg eh ed eb =

@@ -10,45 +10,69 @@ use Rattle.replay.proofs.play_orders.Statement.{statement}
 use Rattle.replay.proofs.play_orders.Tie as tie
 
 mul-memory-bytes : tie.Need-mul-memory-bytes
-mul-memory-bytes c = omega (arith, memory-few _ (c .before .before .before .pre .0))
+mul-memory-bytes c = let start : tie.Start = search in omega (arith, memory-few _ (start .pre .0))
 
 mul-tag-bytes : tie.Need-mul-tag-bytes
-mul-tag-bytes c = omega (arith, entries-few _ (c .before .before .before .pre .0) (c .before .entries .ensures))
+mul-tag-bytes c = let start : tie.Start = search in omega (arith, entries-few _ (start .pre .0) (c .before .entries .ensures))
 
 mul-data-bytes : tie.Need-mul-data-bytes
-mul-data-bytes c = omega (arith, entries-few _ (c .before .before .before .pre .0) (c .before .entries .ensures))
+mul-data-bytes c = let start : tie.Start = search in omega (arith, entries-few _ (start .pre .0) (c .before .entries .ensures))
 
 array-borrow-prefix-memory : tie.Need-array-borrow-prefix-memory
-array-borrow-prefix-memory c = memory-few _ (c .before .before .before .pre .0)
+array-borrow-prefix-memory c = let start : tie.Start = search in memory-few _ (start .pre .0)
 
 slice-aggregate-run-and-audit : tie.Need-slice-aggregate-run-and-audit
-slice-aggregate-run-and-audit c = sym (length-take-le _ _ (memory-few _ (c .before .before .before .before .pre .0)))
+slice-aggregate-run-and-audit c = let start : tie.Start = search in sym (length-take-le _ _ (memory-few _ (start .pre .0)))
 
 array-borrow-prefix-tags : tie.Need-array-borrow-prefix-tags
-array-borrow-prefix-tags c = omega (arith, entries-few _ (c .before .before .before .before .pre .0) (c .before .before .entries .ensures))
+array-borrow-prefix-tags c =
+    let after-entries : tie.After-entries = search in let start : tie.Start = search in
+    omega (arith, entries-few _ (start .pre .0) (after-entries .entries .ensures))
 
 slice-aggregate-run-and-audit-2 : tie.Need-slice-aggregate-run-and-audit-2
-slice-aggregate-run-and-audit-2 c = sym (length-take-le _ _ (omega (arith, entries-few _ (c .before .before .before .before .before .pre .0) (c .before .before .before .entries .ensures))))
+slice-aggregate-run-and-audit-2 c =
+    let after-entries : tie.After-entries = search in let start : tie.Start = search in
+    sym (length-take-le _ _ (omega (arith, entries-few _ (start .pre .0) (after-entries .entries .ensures))))
 
 array-borrow-prefix-states : tie.Need-array-borrow-prefix-states
-array-borrow-prefix-states c = entries-few _ (c .before .before .before .before .before .pre .0) (c .before .before .before .entries .ensures)
+array-borrow-prefix-states c =
+    let after-entries : tie.After-entries = search in let start : tie.Start = search in
+    entries-few _ (start .pre .0) (after-entries .entries .ensures)
 
 slice-aggregate-run-and-audit-3 : tie.Need-slice-aggregate-run-and-audit-3
-slice-aggregate-run-and-audit-3 c = sym (length-take-le _ _ (entries-few _ (c .before .before .before .before .before .before .pre .0) (c .before .before .before .before .entries .ensures)))
+slice-aggregate-run-and-audit-3 c =
+    let after-entries : tie.After-entries = search in let start : tie.Start = search in
+    sym (length-take-le _ _ (entries-few _ (start .pre .0) (after-entries .entries .ensures)))
 
 array-borrow-prefix-data : tie.Need-array-borrow-prefix-data
-array-borrow-prefix-data c = omega (arith, entries-few _ (c .before .before .before .before .before .before .pre .0) (c .before .before .before .before .entries .ensures))
+array-borrow-prefix-data c =
+    let after-entries : tie.After-entries = search in let start : tie.Start = search in
+    omega (arith, entries-few _ (start .pre .0) (after-entries .entries .ensures))
 
 slice-aggregate-run-and-audit-4 : tie.Need-slice-aggregate-run-and-audit-4
-slice-aggregate-run-and-audit-4 c = sym (length-take-le _ _ (omega (arith, entries-few _ (c .before .before .before .before .before .before .before .pre .0) (c .before .before .before .before .before .entries .ensures))))
+slice-aggregate-run-and-audit-4 c =
+    let after-entries : tie.After-entries = search in let start : tie.Start = search in
+    sym (length-take-le _ _ (omega (arith, entries-few _ (start .pre .0) (after-entries .entries .ensures))))
 
 run-and-audit-requires : tie.Need-run-and-audit-requires
-run-and-audit-requires c κs = let n = entries-few _ (c .before .before .before .before .before .before .before .before .before .before .pre .0) (c .before .before .before .before .before .before .before .before .entries .ensures) in
-    (start-fits _ (c .before .before .before .before .before .before .before .before .before .before .pre .0) (c .before .before .before .before .before .before .before .before .entries .ensures) (length-take-le _ _ (memory-few _ (c .before .before .before .before .before .before .before .before .before .before .pre .0))) (length-take-le _ _ (omega (arith, n))) (length-take-le _ _ n) (length-take-le _ _ (omega (arith, n))), search needs)
+run-and-audit-requires c κs =
+    let after-entries : tie.After-entries = search in let start : tie.Start = search in
+    let n = entries-few _ (start .pre .0) (after-entries .entries .ensures) in
+    (
+      start-fits _ (start .pre .0) (after-entries .entries .ensures)
+      (length-take-le _ _ (memory-few _ (start .pre .0)))
+      (length-take-le _ _ (omega (arith, n)))
+      (length-take-le _ _ n)
+      (length-take-le _ _ (omega (arith, n))),
+      search needs,
+    )
 
 returns : tie.Need-returns
-returns c = let a = c .before .before .before .before .before .before .before .before .before .before .before .before .before .before .before .args in
-    parts-played (a .shape) (a .orders) (a .answers .now) (part-to-end (a .trace .now) 16) (part-to-end (a .trace .now) (16 + 8 * a .orders)) (start-is _ (c .before .before .before .before .before .before .before .before .before .before .before .before .before .before .before .pre .0) (c .before .before .before .before .before .before .before .before .before .before .before .before .before .entries .ensures)) (c .before .before .before .before .run-and-audit .ensures)
+returns c =
+    let after-run-and-audit : tie.After-run-and-audit = search in let after-entries : tie.After-entries = search in let start : tie.Start = search in
+    let a = start .args in
+    parts-played (a .shape) (a .orders) (a .answers .now) (part-to-end (a .trace .now) 16) (part-to-end (a .trace .now) (16 + 8 * a .orders))
+    (start-is _ (start .pre .0) (after-entries .entries .ensures)) (after-run-and-audit .run-and-audit .ensures)
 
 pub play-orders-spec : {M : Type 1} → statement M
 play-orders-spec =

@@ -7,10 +7,15 @@ use Rattle.replay.proofs.run_and_audit.Statement.{statement}
 use Rattle.replay.proofs.run_and_audit.Tie as tie
 
 audit-tables-requires : tie.Need-audit-tables-requires
-audit-tables-requires c κs = let e = c .before .before .before .before .before .before .before .before .before .before .before .before .before .before .run-orders .kept in refitted _ (c .before .before .before .before .before .before .before .before .before .before .before .before .before .before .before .before .before .before .before .before .before .before .before .before .before .before .before .pre .0) (e .1 .0) (e .1 .1 .0) (e .1 .1 .1 .0) (e .1 .1 .1 .1 .0)
+audit-tables-requires c κs =
+    let after-run-orders : tie.After-run-orders = search in let start : tie.Start = search in
+    let e = after-run-orders .run-orders .kept in
+    refitted _ (start .pre .0) (e .1 .0) (e .1 .1 .0) (e .1 .1 .1 .0) (e .1 .1 .1 .1 .0)
 
 returns : tie.Need-returns
-returns c = (c .audit-tables .ensures ∙ ap (audit (c .before .before .before .before .before .before .before .before .before .before .before .before .before .before .before .before .before .before .before .before .before .before .before .before .before .before .before .before .args .shape)) (c .before .before .before .before .before .before .before .before .before .before .before .before .before .before .before .run-orders .ensures .0), c .before .before .before .before .before .before .before .before .before .before .before .before .before .before .before .run-orders .ensures .1)
+returns c =
+    let after-run-orders : tie.After-run-orders = search in let start : tie.Start = search in
+    (c .audit-tables .ensures ∙ ap (audit (start .args .shape)) (after-run-orders .run-orders .ensures .0), after-run-orders .run-orders .ensures .1)
 
 pub run-and-audit-spec : {M : Type 1} → statement M
 run-and-audit-spec =

@@ -7,62 +7,82 @@ use Rattle.replay.proofs.run_orders.Statement.{statement}
 use Rattle.replay.proofs.run_orders.Tie as tie
 
 abbrev Inv-loop : tie.InvT-loop
-Inv-loop shape memory₀ tags₀ states₀ data₀ words operands n answers₀ k₀ memory tags states «data» answers k = Running shape words operands n (bytes memory₀ tags₀ states₀ data₀) answers₀ (bytes memory tags states «data») answers k
+Inv-loop shape memory₀ tags₀ states₀ data₀ words operands n answers₀ k₀ memory tags states «data» answers k = Running shape words
+    operands n (bytes memory₀ tags₀ states₀ data₀) answers₀ (bytes memory tags states «data») answers k
 
 abbrev μ-loop : tie.MeasureT-loop
 μ-loop shape memory₀ tags₀ states₀ data₀ words operands n answers₀ k₀ memory tags states «data» answers k = n - k
 
 loop-holds : tie.Need-loop-holds Inv-loop μ-loop
-loop-holds c = running-none _ _ _ _ _ _ (c .before .before .before .before .before .before .before .pre .0)
+loop-holds c = let start : tie.Start Inv-loop μ-loop = search in running-none _ _ _ _ _ _ (start .pre .0)
 
 mul-read-eight : tie.Need-mul-read-eight Inv-loop μ-loop
-mul-read-eight c = omega (arith, c .loop-test .taken, c .before .before .before .before .before .before .before .before .before .pre .1)
+mul-read-eight c = let start : tie.Start Inv-loop μ-loop = search in omega (arith, c .loop-test .taken, start .pre .1)
 
 read-eight-requires : tie.Need-read-eight-requires Inv-loop μ-loop
-read-eight-requires c κs = omega (arith, c .loop-test .taken, c .before .before .before .before .before .before .before .before .before .pre .1)
+read-eight-requires c κs = let start : tie.Start Inv-loop μ-loop = search in omega (arith, c .loop-test .taken, start .pre .1)
 
 mul-read-eight-2 : tie.Need-mul-read-eight-2 Inv-loop μ-loop
-mul-read-eight-2 c = omega (arith, c .before .loop-test .taken, c .before .before .before .before .before .before .before .before .before .before .pre .1)
+mul-read-eight-2 c = let start : tie.Start Inv-loop μ-loop = search in omega (arith, c .before .loop-test .taken, start .pre .1)
 
 read-eight-requires-2 : tie.Need-read-eight-requires-2 Inv-loop μ-loop
-read-eight-requires-2 c κs = omega (arith, c .before .loop-test .taken, c .before .before .before .before .before .before .before .before .before .before .pre .1)
+read-eight-requires-2 c κs = let start : tie.Start Inv-loop μ-loop = search in omega (arith, c .before .loop-test .taken, start .pre .1)
 
 step-order-requires : tie.Need-step-order-requires Inv-loop μ-loop
-step-order-requires c κs = c .before .before .before .before .before .before .before .loop .inv .fits
+step-order-requires c κs = let at-loop : tie.At-loop Inv-loop μ-loop = search in at-loop .loop .inv .fits
 
 mul-put-answer : tie.Need-mul-put-answer Inv-loop μ-loop
-mul-put-answer c = omega (arith, c .before .before .before .before .before .before .before .before .before .before .before .before .before .before .before .before .loop-test .taken, c .before .before .before .before .before .before .before .before .before .before .before .before .before .before .before .before .before .before .before .before .before .before .before .before .before .pre .1, c .before .before .before .before .before .before .before .before .before .before .before .before .before .before .before .before .before .before .before .before .before .before .before .before .before .good)
+mul-put-answer c =
+    let in-loop : tie.In-loop Inv-loop μ-loop = search in let start : tie.Start Inv-loop μ-loop = search in
+    omega (arith, in-loop .loop-test .taken, start .pre .1, start .good)
 
 put-answer-requires : tie.Need-put-answer-requires Inv-loop μ-loop
-put-answer-requires c κs = omega (arith, c .before .before .before .before .before .before .before .before .before .before .before .before .before .before .before .before .loop-test .taken, c .before .before .before .before .before .before .before .before .before .before .before .before .before .before .before .before .before .before .before .before .before .before .before .before .before .pre .1, c .before .before .before .before .before .before .before .before .before .before .before .before .before .before .before .before .before .loop .inv .same)
+put-answer-requires c κs =
+    let in-loop : tie.In-loop Inv-loop μ-loop = search in let at-loop : tie.At-loop Inv-loop μ-loop = search in
+    let start : tie.Start Inv-loop μ-loop = search in
+    omega (arith, in-loop .loop-test .taken, start .pre .1, at-loop .loop .inv .same)
 
 add-k : tie.Need-add-k Inv-loop μ-loop
-add-k c = omega (arith, c .before .before .before .before .before .before .before .before .before .before .before .before .before .before .before .before .before .before .before .loop-test .taken, c .before .before .before .before .before .before .before .before .before .before .before .before .before .before .before .before .before .before .before .before .before .before .before .before .before .before .before .before .fits)
+add-k c =
+    let in-loop : tie.In-loop Inv-loop μ-loop = search in let start : tie.Start Inv-loop μ-loop = search in
+    omega (arith, in-loop .loop-test .taken, start .fits)
 
 loop-less : tie.Need-loop-less Inv-loop μ-loop
-loop-less c = omega (arith, c .before .before .before .before .before .before .before .before .before .before .before .before .before .before .before .before .before .before .before .loop-test .taken)
+loop-less c = let in-loop : tie.In-loop Inv-loop μ-loop = search in omega (arith, in-loop .loop-test .taken)
 
 loop-again : tie.Need-loop-again Inv-loop μ-loop
-loop-again c = let e = c .before .before .before .before .before .before .before .before .before .before .before .before .step-order .kept in
-    running-more _ _ _ _ (c .before .before .before .before .before .before .before .before .before .before .before .before .before .before .before .before .before .before .before .before .loop .inv) (c .before .before .before .before .before .before .before .before .before .before .before .before .before .before .before .before .before .before .before .loop-test .taken) (c .before .before .before .before .before .before .before .before .before .before .before .before .before .before .before .before .before .before .read-eight .ensures) (c .before .before .before .before .before .before .before .before .before .before .before .before .before .before .before .before .before .read-eight2 .ensures) _ (c .before .before .before .before .before .before .before .before .before .before .before .before .step-order .ensures) (e .1 .0) (e .1 .1 .0) (e .1 .1 .1 .0) (e .1 .1 .1 .1 .0) (c .before .before .put-answer .ensures)
+loop-again c =
+    let after-put-answer : tie.After-put-answer Inv-loop μ-loop = search in let after-step-order : tie.After-step-order Inv-loop μ-loop = search in
+    let after-read-eight2 : tie.After-read-eight2 Inv-loop μ-loop = search in let after-read-eight : tie.After-read-eight Inv-loop μ-loop = search in
+    let in-loop : tie.In-loop Inv-loop μ-loop = search in let at-loop : tie.At-loop Inv-loop μ-loop = search in
+    let e = after-step-order .step-order .kept in
+    running-more _ _ _ _ (at-loop .loop .inv) (in-loop .loop-test .taken) (after-read-eight .read-eight .ensures)
+    (after-read-eight2 .read-eight2 .ensures) _ (after-step-order .step-order .ensures) (e .1 .0) (e .1 .1 .0) (e .1 .1 .1 .0) (e .1 .1 .1 .1 .0)
+    (after-put-answer .put-answer .ensures)
 
 same-length : tie.Need-same-length Inv-loop μ-loop
-same-length c = omega (arith, c .before .loop .inv .fits .memory-fits, c .before .before .before .before .before .before .before .before .before .pre .0 .memory-fits)
+same-length c = let start : tie.Start Inv-loop μ-loop = search in omega (arith, c .before .loop .inv .fits .memory-fits, start .pre .0 .memory-fits)
 
 same-length-2 : tie.Need-same-length-2 Inv-loop μ-loop
-same-length-2 c = omega (arith, c .before .loop .inv .fits .filled .tags-fit, c .before .before .before .before .before .before .before .before .before .pre .0 .filled .tags-fit)
+same-length-2 c =
+    let start : tie.Start Inv-loop μ-loop = search in
+    omega (arith, c .before .loop .inv .fits .filled .tags-fit, start .pre .0 .filled .tags-fit)
 
 same-length-3 : tie.Need-same-length-3 Inv-loop μ-loop
-same-length-3 c = omega (arith, c .before .loop .inv .fits .filled .states-fit, c .before .before .before .before .before .before .before .before .before .pre .0 .filled .states-fit)
+same-length-3 c =
+    let start : tie.Start Inv-loop μ-loop = search in
+    omega (arith, c .before .loop .inv .fits .filled .states-fit, start .pre .0 .filled .states-fit)
 
 same-length-4 : tie.Need-same-length-4 Inv-loop μ-loop
-same-length-4 c = omega (arith, c .before .loop .inv .fits .filled .words-fit, c .before .before .before .before .before .before .before .before .before .pre .0 .filled .words-fit)
+same-length-4 c =
+    let start : tie.Start Inv-loop μ-loop = search in
+    omega (arith, c .before .loop .inv .fits .filled .words-fit, start .pre .0 .filled .words-fit)
 
 same-length-5 : tie.Need-same-length-5 Inv-loop μ-loop
 same-length-5 c = c .before .loop .inv .same
 
 returns : tie.Need-returns Inv-loop μ-loop
-returns c = running-done _ _ _ _ (c .before .loop .inv) (c .loop-test .left) (c .before .before .before .before .before .before .before .before .before .pre .1 .1)
+returns c = let start : tie.Start Inv-loop μ-loop = search in running-done _ _ _ _ (c .before .loop .inv) (c .loop-test .left) (start .pre .1 .1)
 
 pub run-orders-spec : {M : Type 1} → statement M
 run-orders-spec =

@@ -8,16 +8,26 @@ returns : tie.Need-returns
 returns c = refused-short _ (c .if1 .taken)
 
 returns-2 : tie.Need-returns-2
-returns-2 c = refused-many _ (c .before .before .if1 .left) (c .before .orders-in .ensures .0) (c .if2 .taken)
+returns-2 c = let else-1 : tie.Else1 = search in refused-many _ (else-1 .if1 .left) (c .before .orders-in .ensures .0) (c .if2 .taken)
 
 returns-3 : tie.Need-returns-3
-returns-3 c = refused-misfit _ (c .before .before .before .if1 .left) (c .before .before .orders-in .ensures .0) (c .before .if2 .left) (c .if3 .taken)
+returns-3 c =
+    let after-orders-in : tie.After-orders-in = search in let else-1 : tie.Else1 = search in
+    refused-misfit _ (else-1 .if1 .left) (after-orders-in .orders-in .ensures .0) (c .before .if2 .left) (c .if3 .taken)
 
 returns-4 : tie.Need-returns-4
-returns-4 c = rw (c .if4 .taken) at (refused-range _ (c .before .before .before .before .before .before .if1 .left) (c .before .before .before .before .before .orders-in .ensures .0) (c .before .before .before .before .if2 .left) (c .before .before .before .if3 .left) (c .before .before .shape-in .ensures) (c .before .is-in-range .ensures))
+returns-4 c =
+    let after-shape-in : tie.After-shape-in = search in let else-3 : tie.Else3 = search in let else-2 : tie.Else2 = search in
+    let after-orders-in : tie.After-orders-in = search in let else-1 : tie.Else1 = search in
+    rw (c .if4 .taken) at (refused-range _ (else-1 .if1 .left) (after-orders-in .orders-in .ensures .0) (else-2 .if2 .left) (else-3 .if3 .left)
+    (after-shape-in .shape-in .ensures) (c .before .is-in-range .ensures))
 
 returns-5 : tie.Need-returns-5
-returns-5 c = rw (c .if4 .left) at (refused-range _ (c .before .before .before .before .before .before .if1 .left) (c .before .before .before .before .before .orders-in .ensures .0) (c .before .before .before .before .if2 .left) (c .before .before .before .if3 .left) (c .before .before .shape-in .ensures) (c .before .is-in-range .ensures))
+returns-5 c =
+    let after-shape-in : tie.After-shape-in = search in let else-3 : tie.Else3 = search in let else-2 : tie.Else2 = search in
+    let after-orders-in : tie.After-orders-in = search in let else-1 : tie.Else1 = search in
+    rw (c .if4 .left) at (refused-range _ (else-1 .if1 .left) (after-orders-in .orders-in .ensures .0) (else-2 .if2 .left) (else-3 .if3 .left)
+    (after-shape-in .shape-in .ensures) (c .before .is-in-range .ensures))
 
 pub trace-refusal-spec : {M : Type 1} → statement M
 trace-refusal-spec =
