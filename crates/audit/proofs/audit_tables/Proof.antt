@@ -26,7 +26,8 @@ unfolding columnsPass
 returns c =
     let in-loop : tie.In-loop Inv-loop μ-loop = search in let at-loop : tie.At-loop Inv-loop μ-loop = search in
     let start : tie.Start Inv-loop μ-loop = search in
-    passing-fails _ (at-loop .loop .inv) (in-loop .loop-test .taken) (c .before .index-passes .ensures) (c .if1 .taken) ∙ columns-say _ _ (start .pre)
+    passing-fails _ (at-loop .loop .inv) (in-loop .loop-test .taken) (c .before .index-passes .ensures) (c .if1 .taken) ∙ columns-say _ _
+    (start .pre)
 
 add-x : tie.Need-add-x Inv-loop μ-loop
 add-x c = let in-loop : tie.In-loop Inv-loop μ-loop = search in omega (arith, in-loop .loop-test .taken)

@@ -11,7 +11,7 @@ use Rattle.audit.proofs.Tested.{tested-free, tested-far, tested-apart, 
 use Rattle.audit.proofs.entry_passes.Statement.{statement}
 use Rattle.audit.proofs.entry_passes.Tie as tie
 
--- The points behind this one, by name.
+-- Points that lie too far back for a search, each seen from a later one.
 abbrev start-of-held-at : tie.After-held-at → tie.Start
 start-of-held-at c = c .before .before .before .before .before
 
@@ -52,8 +52,8 @@ returns-4 c =
     let else-2 : tie.Else2 = search in let after-home-of : tie.After-home-of = search in let else-1 : tie.Else1 = search in
     let after-held-at : tie.After-held-at = search in let start = start-of-held-at after-held-at in
     tested-kept _ _ _ _ (after-held-at .held-at .ensures) (else-1 .if1 .left) (after-home-of .home-of .ensures) (else-2 .if2 .left)
-    (after-below-pass .below-pass .ensures) (else-3 .if3 .left) (sym
-    (memory-word (start .pre .0) (else-2 .if2 .left) (after-word-at .word-at .ensures))) (c .before .is-owner .ensures) (c .if4 .taken)
+    (after-below-pass .below-pass .ensures) (else-3 .if3 .left)
+    (sym (memory-word (start .pre .0) (else-2 .if2 .left) (after-word-at .word-at .ensures))) (c .before .is-owner .ensures) (c .if4 .taken)
 
 owned-at-requires : tie.Need-owned-at-requires
 owned-at-requires c κs = let start : tie.Start = search in ((start .pre .0 .filled .tags-fit, start .pre .0 .filled .states-fit), start .pre .1 .0)
@@ -65,8 +65,8 @@ returns-5 c =
     let after-below-pass : tie.After-below-pass = search in let else-2 : tie.Else2 = search in let after-home-of : tie.After-home-of = search in
     let else-1 : tie.Else1 = search in let after-held-at : tie.After-held-at = search in let start = start-of-held-at after-held-at in
     tested-owned _ _ _ _ (after-held-at .held-at .ensures) (else-1 .if1 .left) (after-home-of .home-of .ensures) (else-2 .if2 .left)
-    (after-below-pass .below-pass .ensures) (else-3 .if3 .left) (sym
-    (memory-word (start .pre .0) (else-2 .if2 .left) (after-word-at .word-at .ensures))) (after-is-owner .is-owner .ensures)
+    (after-below-pass .below-pass .ensures) (else-3 .if3 .left)
+    (sym (memory-word (start .pre .0) (else-2 .if2 .left) (after-word-at .word-at .ensures))) (after-is-owner .is-owner .ensures)
     (c .before .if4 .left) (c .owned-at .ensures)
 
 pub entry-passes-spec : {M : Type 1} → statement M

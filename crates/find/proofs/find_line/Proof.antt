@@ -18,7 +18,8 @@ column-sound-requires : tie.Need-column-sound-requires
 column-sound-requires c κs =
     let else-1 : tie.Else1 = search in let after-refusal : tie.After-refusal = search in let start : tie.Start = search in
     let x = start .args in
-    let l = accepted _ (now (x .memory)) (now (x .tags)) (now (x .states)) (now (x .«data»)) (after-refusal .refusal .ensures) (else-1 .if1 .left) in
+    let l = accepted _ (now (x .memory)) (now (x .tags)) (now (x .states)) (now (x .«data»)) (after-refusal .refusal .ensures)
+    (else-1 .if1 .left) in
     ((l .range, c .if2 .left), (l .sizes .tags, l .sizes .states))
 
 returns-3 : tie.Need-returns-3
@@ -31,7 +32,8 @@ first-holder-requires c κs =
     let else-2 : tie.Else2 = search in let else-1 : tie.Else1 = search in let after-refusal : tie.After-refusal = search in
     let start : tie.Start = search in
     let x = start .args in
-    let l = accepted _ (now (x .memory)) (now (x .tags)) (now (x .states)) (now (x .«data»)) (after-refusal .refusal .ensures) (else-1 .if1 .left) in
+    let l = accepted _ (now (x .memory)) (now (x .tags)) (now (x .states)) (now (x .«data»)) (after-refusal .refusal .ensures)
+    (else-1 .if1 .left) in
     ((l .range, else-2 .if2 .left), (l .sizes .tags, l .sizes .states))
 
 returns-4 : tie.Need-returns-4

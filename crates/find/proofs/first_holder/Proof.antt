@@ -65,8 +65,8 @@ loop-again : tie.Need-loop-again Inv-loop μ-loop
 loop-again c =
     let after-byte-state : tie.After-byte-state Inv-loop μ-loop = search in let then-1 : tie.Then1 Inv-loop μ-loop = search in
     let at-loop : tie.At-loop Inv-loop μ-loop = search in let after-place : tie.After-place Inv-loop μ-loop = search in
-    searching-more _ _ _ _ _ (after-place .place .ensures) (after-byte-state .byte-state .ensures) (c .before .is-valid .ensures) (at-loop .loop .inv)
-    (then-1 .if1 .taken) (c .if2 .left)
+    searching-more _ _ _ _ _ (after-place .place .ensures) (after-byte-state .byte-state .ensures) (c .before .is-valid .ensures)
+    (at-loop .loop .inv) (then-1 .if1 .taken) (c .if2 .left)
 
 returns-2 : tie.Need-returns-2 Inv-loop μ-loop
 returns-2 c = let at-loop : tie.At-loop Inv-loop μ-loop = search in searching-done (at-loop .loop .inv) (c .if1 .left)

@@ -14,8 +14,10 @@ audit-tables-requires c κs =
 
 returns : tie.Need-returns
 returns c =
-    let after-run-orders : tie.After-run-orders = search in let start : tie.Start = search in
-    (c .audit-tables .ensures ∙ ap (audit (start .args .shape)) (after-run-orders .run-orders .ensures .0), after-run-orders .run-orders .ensures .1)
+    let after-run-orders : tie.After-run-orders = search in let start : tie.Start = search in (
+      c .audit-tables .ensures ∙ ap (audit (start .args .shape)) (after-run-orders .run-orders .ensures .0),
+      after-run-orders .run-orders .ensures .1,
+    )
 
 pub run-and-audit-spec : {M : Type 1} → statement M
 run-and-audit-spec =

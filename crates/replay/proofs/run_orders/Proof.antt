@@ -53,8 +53,9 @@ loop-less c = let in-loop : tie.In-loop Inv-loop μ-loop = search in omega (arit
 loop-again : tie.Need-loop-again Inv-loop μ-loop
 loop-again c =
     let after-put-answer : tie.After-put-answer Inv-loop μ-loop = search in let after-step-order : tie.After-step-order Inv-loop μ-loop = search in
-    let after-read-eight2 : tie.After-read-eight2 Inv-loop μ-loop = search in let after-read-eight : tie.After-read-eight Inv-loop μ-loop = search in
-    let in-loop : tie.In-loop Inv-loop μ-loop = search in let at-loop : tie.At-loop Inv-loop μ-loop = search in
+    let after-read-eight2 : tie.After-read-eight2 Inv-loop μ-loop = search in
+    let after-read-eight : tie.After-read-eight Inv-loop μ-loop = search in let in-loop : tie.In-loop Inv-loop μ-loop = search in
+    let at-loop : tie.At-loop Inv-loop μ-loop = search in
     let e = after-step-order .step-order .kept in
     running-more _ _ _ _ (at-loop .loop .inv) (in-loop .loop-test .taken) (after-read-eight .read-eight .ensures)
     (after-read-eight2 .read-eight2 .ensures) _ (after-step-order .step-order .ensures) (e .1 .0) (e .1 .1 .0) (e .1 .1 .1 .0) (e .1 .1 .1 .1 .0)

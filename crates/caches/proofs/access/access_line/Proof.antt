@@ -20,8 +20,7 @@ unfolding lineOf
 survey-ports-requires c κs =
     let after-line-of : tie.After-line-of = search in let start : tie.Start = search in (
       rw (after-line-of .line-of .ensures) (start .pre .0 .filled),
-      placed _ _ (start .pre .0 .range) (start .pre .1 .1)
-          (after-line-of .line-of .ensures),
+      placed _ _ (start .pre .0 .range) (start .pre .1 .1) (after-line-of .line-of .ensures),
     )
 
 returns : tie.Need-returns
@@ -46,8 +45,7 @@ access-sound-requires c κs =
           rw (after-line-of .line-of .ensures) (start .pre .1 .0),
           (
             (after-survey-ports .survey-ports .ensures, not-false _ (else-1 .if1 .left)),
-            rw
-                (after-line-of .line-of .ensures) (memory-word (start .pre .0) (start .pre .1 .1) (after-word-at .word-at .ensures)),
+            rw (after-line-of .line-of .ensures) (memory-word (start .pre .0) (start .pre .1 .1) (after-word-at .word-at .ensures)),
           ),
         ),
       ),

@@ -12,63 +12,42 @@ use Rattle.caches.proofs.Accesses.{bus-fits, chosen-state, entry-state,
 use Rattle.caches.proofs.access.access_sound.Statement.{statement}
 use Rattle.caches.proofs.access.access_sound.Tie as tie
 
--- The points behind this one, by name.
+-- Points that lie too far back for a search, each seen from a later one.
 abbrev start-of-entry-at : tie.After-entry-at → tie.Start
 start-of-entry-at c = c .before .before .before .before .before .before .before .before .before
 
 abbrev start-of-own-rule : tie.After-own-rule → tie.Start
 start-of-own-rule c = start-of-entry-at (c .before .before .before .before .before .before .before .before .before .before)
 
-abbrev start-of-slice-known3 : tie.After-slice-known3 → tie.Start
-start-of-slice-known3 c = c .before .before .before
-
-abbrev start-of-find-word-arg : tie.After-find-word-arg → tie.Start
-start-of-find-word-arg c = start-of-slice-known3 (c .before .before .before .before .before .before .before .before .before .before)
+abbrev start-of-find-word : tie.After-find-word → tie.Start
+start-of-find-word c = start-of-entry-at (c .before .before .before .before .before .before .before)
 
 abbrev start-of-ask : tie.After-ask → tie.Start
-start-of-ask c = start-of-find-word-arg (c .before .before .before .before .before .before .before .before .before .before)
+start-of-ask c = start-of-find-word (c .before .before .before .before .before .before .before)
 
-abbrev start-of-slice-known : tie.After-slice-known → tie.Start
-start-of-slice-known c = c .before
-
-abbrev start-of-struct-known2 : tie.After-struct-known2 → tie.Start
-start-of-struct-known2 c = start-of-slice-known (c .before .before .before .before .before .before .before .before .before .before)
-
-abbrev start-of-ask-arg2 : tie.After-ask-arg2 → tie.Start
-start-of-ask-arg2 c = start-of-struct-known2 (c .before .before .before .before .before .before .before .before .before .before)
-
-abbrev start-of-put-entry-arg2 : tie.After-put-entry-arg2 → tie.Start
-start-of-put-entry-arg2 c = start-of-ask-arg2 (c .before .before .before .before .before .before .before .before .before .before)
+abbrev start-of-put-entry : tie.After-put-entry → tie.Start
+start-of-put-entry c = start-of-ask (c .before .before .before .before .before .before .before .before .before .before)
 
 abbrev start-of-is-owner : tie.After-is-owner → tie.Start
-start-of-is-owner c = start-of-put-entry-arg2 (c .before .before .before .before .before .before .before .before .before .before)
+start-of-is-owner c = start-of-put-entry (c .before .before .before .before .before .before .before .before)
 
-abbrev entry-at-of-struct-known : tie.After-struct-known → tie.After-entry-at
-entry-at-of-struct-known c = c .before
+abbrev entry-at-of-find-word : tie.After-find-word → tie.After-entry-at
+entry-at-of-find-word c = c .before .before .before .before .before .before .before
 
-abbrev entry-at-of-ask-arg : tie.After-ask-arg → tie.After-entry-at
-entry-at-of-ask-arg c = entry-at-of-struct-known (c .before .before .before .before .before .before .before .before .before .before)
+abbrev entry-at-of-ask : tie.After-ask → tie.After-entry-at
+entry-at-of-ask c = entry-at-of-find-word (c .before .before .before .before .before .before .before)
 
-abbrev entry-at-of-put-entry-arg : tie.After-put-entry-arg → tie.After-entry-at
-entry-at-of-put-entry-arg c = entry-at-of-ask-arg (c .before .before .before .before .before .before .before .before .before .before)
+abbrev entry-at-of-put-entry : tie.After-put-entry → tie.After-entry-at
+entry-at-of-put-entry c = entry-at-of-ask (c .before .before .before .before .before .before .before .before .before .before)
 
 abbrev entry-at-of-byte-state : tie.After-byte-state → tie.After-entry-at
-entry-at-of-byte-state c = entry-at-of-put-entry-arg (c .before .before .before .before .before .before .before .before .before .before)
+entry-at-of-byte-state c = entry-at-of-put-entry (c .before .before .before .before .before .before .before)
 
-abbrev start-of-slice-known4 : tie.After-slice-known4 → tie.Start
-start-of-slice-known4 c = c .before .before .before .before
-
-abbrev start-of-find-word-arg2 : tie.After-find-word-arg2 → tie.Start
-start-of-find-word-arg2 c = start-of-slice-known4 (c .before .before .before .before .before .before .before .before .before .before)
-
-abbrev start-of-tags : tie.After-tags → tie.Start
-start-of-tags c = start-of-find-word-arg2 (c .before .before .before .before .before .before .before .before .before .before)
-
-abbrev start-of-tags2 : tie.After-tags2 → tie.Start
-start-of-tags2 c = start-of-tags (c .before .before .before .before .before .before .before .before .before .before)
+abbrev start-of-byte-state : tie.After-byte-state → tie.Start
+start-of-byte-state c = start-of-put-entry (c .before .before .before .before .before .before .before)
 
 abbrev start-of-store-if : tie.After-store-if → tie.Start
-start-of-store-if c = start-of-tags2 (c .before .before .before .before .before .before .before .before .before .before)
+start-of-store-if c = start-of-byte-state (c .before .before .before .before)
 
 abbrev put-entry-of-byte-state : tie.After-byte-state → tie.After-put-entry
 put-entry-of-byte-state c = c .before .before .before .before .before .before .before
@@ -78,9 +57,6 @@ ask-of-put-entry c = c .before .before .before .before .before .before .before .
 
 abbrev own-rule-of-ask : tie.After-ask → tie.After-own-rule
 own-rule-of-ask c = c .before .before .before .before
-
-abbrev entry-at-of-find-word : tie.After-find-word → tie.After-entry-at
-entry-at-of-find-word c = c .before .before .before .before .before .before .before
 
 mul-at : tie.Need-mul-at
 mul-at c = let start : tie.Start = search in omega (arith, small (start .pre .1 .0) (start .args .i) (start .pre .1 .1 .0))
@@ -125,8 +101,7 @@ ask-requires c κs =
           masks-states _ _ _ (start .pre .1 .1 .1 .0 .0) (start .pre .1 .1 .1 .0 .1),
           (
             bit-away _ _ _ (masks-holders _ _ _ (start .pre .1 .1 .1 .0 .0)) (start .pre .1 .1 .0) (few (start .pre .1 .0)) .1,
-            bus-fits _
-                (after-own-rule .own-rule .ensures),
+            bus-fits _ (after-own-rule .own-rule .ensures),
           ),
         ),
       ),

@@ -13,6 +13,10 @@ use Rattle.caches.proofs.Flushes.{flush-done}
 use Rattle.caches.proofs.flush.flush_line.Statement.{statement}
 use Rattle.caches.proofs.flush.flush_line.Tie as tie
 
+-- Points that lie too far back for a search, each seen from a later one.
+abbrev start-of-line-of : tie.After-line-of → tie.Start
+start-of-line-of c = c .before .before .before .before .before
+
 line-of-requires : tie.Need-line-of-requires
 line-of-requires c κs = let start : tie.Start = search in (start .pre .0 .range, start .pre .1 .1)
 
@@ -70,7 +74,7 @@ unfolding lineOf tablesIn
 returns-2 c =
     let after-store-if : tie.After-store-if = search in let after-empty-if : tie.After-empty-if = search in
     let after-word-at : tie.After-word-at = search in let else-1 : tie.Else1 = search in let after-survey-ports : tie.After-survey-ports = search in
-    let after-line-of : tie.After-line-of = search in let start : tie.Start = search in
+    let after-line-of : tie.After-line-of = search in let start = start-of-line-of after-line-of in
     let v = placed _ _ (start .pre .0 .range) (start .pre .1 .1) refl in
     let p = rw (after-line-of .line-of .ensures) at (after-survey-ports .survey-ports .ensures) in
     rw (column-sound _ (bytes (start .args .memory .now) (start .args .tags .now) (start .args .states .now) (start .args .words .now)) _ p

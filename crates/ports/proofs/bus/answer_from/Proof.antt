@@ -17,8 +17,7 @@ returns c =
       tags-part (a .c) (a .w) _ (a .from) _ (start .pre .0) (start .pre .1) (e .0),
       (
         states-part (a .c) (a .w) _ (a .from) _ (start .pre .0) (start .pre .1) (e .1 .0),
-        words-part (a .c) (a .w) _ (a .from) _ (start .pre .0)
-            (start .pre .1) (e .1 .1),
+        words-part (a .c) (a .w) _ (a .from) _ (start .pre .0) (start .pre .1) (e .1 .1),
       ),
     )
 

@@ -29,8 +29,7 @@ add-q c =
     omega (
       arith,
       next-below (start .pre .1 .0) _ _ _ (start .pre .0) (start .pre .1 .1 .0) (c .before .loop .inv) (c .loop-test .taken),
-      few
-          (start .pre .1 .0),
+      few (start .pre .1 .0),
     )
 
 mul-answer-from : tie.Need-mul-answer-from Inv-loop μ-loop
@@ -48,8 +47,7 @@ answer-from-requires c κs =
     let in-loop : tie.In-loop Inv-loop μ-loop = search in let at-loop : tie.At-loop Inv-loop μ-loop = search in
     let start : tie.Start Inv-loop μ-loop = search in (
       next-room (start .pre .1 .0) _ _ _ (start .pre .0) (start .pre .1 .1 .0) (at-loop .loop .inv) (in-loop .loop-test .taken),
-      next-holder
-          (start .pre .1 .0) _ _ _ (start .pre .0) (start .pre .1 .1 .0) (at-loop .loop .inv) (in-loop .loop-test .taken),
+      next-holder (start .pre .1 .0) _ _ _ (start .pre .0) (start .pre .1 .1 .0) (at-loop .loop .inv) (in-loop .loop-test .taken),
     )
 
 cast-rest : tie.Need-cast-rest Inv-loop μ-loop
@@ -62,8 +60,7 @@ shr-rest c =
     omega (
       arith,
       next-below (start .pre .1 .0) _ _ _ (start .pre .0) (start .pre .1 .1 .0) (at-loop .loop .inv) (in-loop .loop-test .taken),
-      few
-          (start .pre .1 .0),
+      few (start .pre .1 .0),
     )
 
 add-p : tie.Need-add-p Inv-loop μ-loop
@@ -73,8 +70,7 @@ add-p c =
     omega (
       arith,
       next-below (start .pre .1 .0) _ _ _ (start .pre .0) (start .pre .1 .1 .0) (at-loop .loop .inv) (in-loop .loop-test .taken),
-      few
-          (start .pre .1 .0),
+      few (start .pre .1 .0),
     )
 
 loop-less : tie.Need-loop-less Inv-loop μ-loop
@@ -97,7 +93,9 @@ same-length : tie.Need-same-length Inv-loop μ-loop
 same-length c = let start : tie.Start Inv-loop μ-loop = search in omega (arith, c .before .loop .inv .filled .tags-fit, start .pre .0 .tags-fit)
 
 same-length-2 : tie.Need-same-length-2 Inv-loop μ-loop
-same-length-2 c = let start : tie.Start Inv-loop μ-loop = search in omega (arith, c .before .loop .inv .filled .states-fit, start .pre .0 .states-fit)
+same-length-2 c =
+    let start : tie.Start Inv-loop μ-loop = search in
+    omega (arith, c .before .loop .inv .filled .states-fit, start .pre .0 .states-fit)
 
 same-length-3 : tie.Need-same-length-3 Inv-loop μ-loop
 same-length-3 c = let start : tie.Start Inv-loop μ-loop = search in omega (arith, c .before .loop .inv .filled .words-fit, start .pre .0 .words-fit)
