@@ -21,24 +21,20 @@ entry-passes-requires c κs = let start : tie.Start Inv-loop μ-loop = search in
 
 returns : tie.Need-returns Inv-loop μ-loop
 unfolding indexPasses
-returns c =
-    let in-loop : tie.In-loop Inv-loop μ-loop = search in let at-loop : tie.At-loop Inv-loop μ-loop = search in
-    passing-fails _ (at-loop .loop .inv) (in-loop .loop-test .taken) (c .before .entry-passes .ensures) (c .if1 .taken)
+returns c = search passing-fails
 
 add-p : tie.Need-add-p Inv-loop μ-loop
-add-p c = let in-loop : tie.In-loop Inv-loop μ-loop = search in omega (arith, in-loop .loop-test .taken)
+add-p c = omega arith
 
 loop-less : tie.Need-loop-less Inv-loop μ-loop
-loop-less c = let in-loop : tie.In-loop Inv-loop μ-loop = search in omega (arith, in-loop .loop-test .taken)
+loop-less c = omega arith
 
 loop-again : tie.Need-loop-again Inv-loop μ-loop
-loop-again c =
-    let in-loop : tie.In-loop Inv-loop μ-loop = search in let at-loop : tie.At-loop Inv-loop μ-loop = search in
-    passing-more _ (at-loop .loop .inv) (in-loop .loop-test .taken) (c .before .entry-passes .ensures) (c .if1 .left)
+loop-again c = search passing-more
 
 returns-2 : tie.Need-returns-2 Inv-loop μ-loop
 unfolding indexPasses
-returns-2 c = passing-done _ (c .before .loop .inv) (c .loop-test .left)
+returns-2 c = search passing-done
 
 pub index-passes-spec : {M : Type 1} → statement M
 index-passes-spec =

@@ -29,24 +29,20 @@ owns-at-requires c κs = let start : tie.Start Inv-loop μ-loop = search in (sta
 
 returns : tie.Need-returns Inv-loop μ-loop
 unfolding ownedAt
-returns c =
-    let in-loop : tie.In-loop Inv-loop μ-loop = search in let at-loop : tie.At-loop Inv-loop μ-loop = search in
-    seeking-found _ (at-loop .loop .inv) (in-loop .loop-test .taken) (c .before .owns-at .ensures) (c .if1 .taken)
+returns c = search seeking-found
 
 add-port : tie.Need-add-port Inv-loop μ-loop
-add-port c = let in-loop : tie.In-loop Inv-loop μ-loop = search in omega (arith, in-loop .loop-test .taken)
+add-port c = omega arith
 
 loop-less : tie.Need-loop-less Inv-loop μ-loop
-loop-less c = let in-loop : tie.In-loop Inv-loop μ-loop = search in omega (arith, in-loop .loop-test .taken)
+loop-less c = omega arith
 
 loop-again : tie.Need-loop-again Inv-loop μ-loop
-loop-again c =
-    let in-loop : tie.In-loop Inv-loop μ-loop = search in let at-loop : tie.At-loop Inv-loop μ-loop = search in
-    seeking-more _ (at-loop .loop .inv) (in-loop .loop-test .taken) (c .before .owns-at .ensures) (c .if1 .left)
+loop-again c = search seeking-more
 
 returns-2 : tie.Need-returns-2 Inv-loop μ-loop
 unfolding ownedAt
-returns-2 c = seeking-done _ (c .before .loop .inv) (c .loop-test .left)
+returns-2 c = search seeking-done
 
 pub owned-at-spec : {M : Type 1} → statement M
 owned-at-spec =
