@@ -5,9 +5,7 @@ use Rattle.endian.proofs.read_eight.Statement.{statement}
 use Rattle.endian.proofs.read_eight.Tie as tie
 
 returns : tie.Need-returns
-returns c =
-    let start : tie.Start = search in
-    eight-is (start .args .s .now) (start .args .at) (c .before .read-four .ensures .0) (c .read-four2 .ensures .0)
+returns c = search eight-is
 
 pub read-eight-spec : {M : Type 1} → statement M
 read-eight-spec =

@@ -5,9 +5,7 @@ use Rattle.endian.proofs.write_eight.Statement.{statement}
 use Rattle.endian.proofs.write_eight.Tie as tie
 
 returns : tie.Need-returns
-returns c =
-    let after-write-four2 : tie.After-write-four2 = search in let after-write-four : tie.After-write-four = search in
-    eight-stored _ _ _ (after-write-four .write-four .ensures) (after-write-four2 .write-four2 .ensures)
+returns c = search eight-stored
 
 pub write-eight-spec : {M : Type 1} → statement M
 write-eight-spec =

@@ -5,7 +5,7 @@ use Rattle.protocol.proofs.rules.snooped_byte.Statement.{statement}
 use Rattle.protocol.proofs.rules.snooped_byte.Tie as tie
 
 returns : tie.Need-returns
-returns c = let start : tie.Start = search in snooped-is _ _ (start .pre .1) (c .before .snoop-row .ensures) (c .nibble .ensures .0)
+returns c = search snooped-is
 
 pub snooped-byte-spec : {M : Type 1} → statement M
 snooped-byte-spec = tie.close (tie.spec (λ c κs. search needs) (λ c κs. search needs) returns)

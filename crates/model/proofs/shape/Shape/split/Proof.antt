@@ -14,7 +14,7 @@ mul-index c = omega (
 )
 
 sub-index : tie.Need-sub-index
-sub-index c = shifted-most (c .before .args .a) (c .before .args .self .sets) (c .shift .result) (c .shift .ensures .0)
+sub-index c = search shifted-most
 
 sub-t8 : tie.Need-sub-t8
 sub-t8 c = some-sets (c .before .args .self) (c .before .pre .0)
