@@ -5,9 +5,7 @@ use Rattle.ports.proofs.bus.ask.Statement.{statement}
 use Rattle.ports.proofs.bus.ask.Tie as tie
 
 returns-2 : tie.Need-returns-2
-returns-2 c =
-    let start : tie.Start = search in
-    unasked (start .pre .1 .0) _ _ _ (start .pre .0) (start .pre .1 .1 .0) (start .pre .1 .1 .1 .0) (c .if1 .left)
+returns-2 c = search unasked
 
 pub ask-spec : {M : Type 1} → statement M
 ask-spec =

@@ -16,9 +16,7 @@ abbrev μ-loop : tie.MeasureT-loop
 μ-loop tags₀ states₀ words₀ line i others bus w c sets rest₀ p₀ tags states words rest p = line .shape .ports - p
 
 loop-holds : tie.Need-loop-holds Inv-loop μ-loop
-loop-holds c =
-    let start : tie.Start Inv-loop μ-loop = search in
-    telling-none (start .pre .1 .0) _ _ _ (start .pre .0) (start .pre .1 .1 .0) (start .pre .1 .1 .1 .0)
+loop-holds c = search telling-none
 
 cast-q : tie.Need-cast-q Inv-loop μ-loop
 cast-q c = omega (arith, trailing-le 64 (c .before .loop .rest))
@@ -90,20 +88,16 @@ loop-again c =
     (after-answer-from .answer-from .ensures)
 
 same-length : tie.Need-same-length Inv-loop μ-loop
-same-length c = let start : tie.Start Inv-loop μ-loop = search in omega (arith, c .before .loop .inv .filled .tags-fit, start .pre .0 .tags-fit)
+same-length c = omega arith
 
 same-length-2 : tie.Need-same-length-2 Inv-loop μ-loop
-same-length-2 c =
-    let start : tie.Start Inv-loop μ-loop = search in
-    omega (arith, c .before .loop .inv .filled .states-fit, start .pre .0 .states-fit)
+same-length-2 c = omega arith
 
 same-length-3 : tie.Need-same-length-3 Inv-loop μ-loop
-same-length-3 c = let start : tie.Start Inv-loop μ-loop = search in omega (arith, c .before .loop .inv .filled .words-fit, start .pre .0 .words-fit)
+same-length-3 c = omega arith
 
 returns : tie.Need-returns Inv-loop μ-loop
-returns c =
-    let start : tie.Start Inv-loop μ-loop = search in
-    telling-done (start .pre .1 .0) _ _ _ (start .pre .0) (start .pre .1 .1 .0) (c .before .loop .inv) (c .loop-test .left)
+returns c = search telling-done
 
 pub broadcast-spec : {M : Type 1} → statement M
 broadcast-spec =

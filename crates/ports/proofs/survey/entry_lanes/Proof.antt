@@ -5,7 +5,7 @@ use Rattle.ports.proofs.survey.entry_lanes.Statement.{statement}
 use Rattle.ports.proofs.survey.entry_lanes.Tie as tie
 
 lanes-at-requires : tie.Need-lanes-at-requires
-lanes-at-requires c κs = let start : tie.Start = search in tag-below (start .pre .1 .0)
+lanes-at-requires c κs = search tag-below
 
 returns : tie.Need-returns
 returns c =

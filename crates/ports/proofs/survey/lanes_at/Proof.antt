@@ -18,10 +18,7 @@ shr-x : tie.Need-shr-x
 shr-x c = let start : tie.Start = search in omega (arith, shift-below (start .args .b) (c .choose-byte .ensures))
 
 returns : tie.Need-returns
-returns c =
-    let after-choose-word : tie.After-choose-word = search in let after-state-row : tie.After-state-row = search in let start : tie.Start = search in
-    lanes-are _ _ (start .args .b) (start .pre) (after-state-row .state-row .ensures) (after-choose-word .choose-word .ensures)
-    (c .before .choose-word2 .ensures) (c .choose-byte .ensures)
+returns c = search lanes-are
 
 pub lanes-at-spec : {M : Type 1} → statement M
 lanes-at-spec =

@@ -15,7 +15,7 @@ abbrev μ-loop : tie.MeasureT-loop
 μ-loop tags states words line sets index sum₀ p₀ sum p = p
 
 loop-holds : tie.Need-loop-holds Inv-loop μ-loop
-loop-holds c = let start : tie.Start Inv-loop μ-loop = search in surveyed-none _ (start .pre .1) _ _ _
+loop-holds c = search surveyed-none
 
 sub-p : tie.Need-sub-p Inv-loop μ-loop
 sub-p c = omega (arith, c .loop-test .taken)
@@ -54,7 +54,7 @@ loop-again c =
     surveyed-more _ (start .pre .1) _ _ _ (at-loop .loop .inv) (omega (arith, c .before .loop-test .taken)) (c .entry-lanes .ensures) refl
 
 returns : tie.Need-returns Inv-loop μ-loop
-returns c = let start : tie.Start Inv-loop μ-loop = search in surveyed-done _ (start .pre .1) _ _ _ (c .before .loop .inv) (c .loop-test .left)
+returns c = search surveyed-done
 
 pub survey-ports-spec : {M : Type 1} → statement M
 survey-ports-spec =
