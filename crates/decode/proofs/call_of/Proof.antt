@@ -11,7 +11,7 @@ returns-2 : tie.Need-returns-2
 returns-2 c = call-flush _ _ _ _ _ _ (c .if2 .taken)
 
 returns-3 : tie.Need-returns-3
-returns-3 c = call-device _ _ _ _ _ _ (c .before .if1 .left) (c .if2 .left)
+returns-3 c = search call-device
 
 pub call-of-spec : {M : Type 1} → statement M
 call-of-spec =
