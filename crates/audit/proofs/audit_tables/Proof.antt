@@ -30,15 +30,13 @@ returns c =
     (start .pre)
 
 add-x : tie.Need-add-x Inv-loop μ-loop
-add-x c = let in-loop : tie.In-loop Inv-loop μ-loop = search in omega (arith, in-loop .loop-test .taken)
+add-x c = omega arith
 
 loop-less : tie.Need-loop-less Inv-loop μ-loop
-loop-less c = let in-loop : tie.In-loop Inv-loop μ-loop = search in omega (arith, in-loop .loop-test .taken)
+loop-less c = omega arith
 
 loop-again : tie.Need-loop-again Inv-loop μ-loop
-loop-again c =
-    let in-loop : tie.In-loop Inv-loop μ-loop = search in let at-loop : tie.At-loop Inv-loop μ-loop = search in
-    passing-more _ (at-loop .loop .inv) (in-loop .loop-test .taken) (c .before .index-passes .ensures) (c .if1 .left)
+loop-again c = search passing-more
 
 returns-2 : tie.Need-returns-2 Inv-loop μ-loop
 unfolding columnsPass

@@ -26,24 +26,18 @@ held-at-requires c κs = let start : tie.Start = search in (start .pre .0 .fille
 
 returns : tie.Need-returns
 unfolding heldAt modelIn tablesIn
-returns c = let after-held-at : tie.After-held-at = search in tested-free _ _ _ _ (after-held-at .held-at .ensures) (c .before .if1 .taken)
+returns c = search tested-free
 
 home-of-requires : tie.Need-home-of-requires
 home-of-requires c κs = let start : tie.Start = search in (bounded _ (start .pre .0 .range) .sets-most, start .pre .1 .0)
 
 returns-2 : tie.Need-returns-2
 unfolding heldAt modelIn tablesIn
-returns-2 c =
-    let after-home-of : tie.After-home-of = search in let else-1 : tie.Else1 = search in let after-held-at : tie.After-held-at = search in
-    tested-far _ _ _ _ (after-held-at .held-at .ensures) (else-1 .if1 .left) (after-home-of .home-of .ensures) (c .if2 .taken)
+returns-2 c = search tested-far
 
 returns-3 : tie.Need-returns-3
 unfolding heldAt belowPass modelIn tablesIn
-returns-3 c =
-    let else-2 : tie.Else2 = search in let after-home-of : tie.After-home-of = search in let else-1 : tie.Else1 = search in
-    let after-held-at : tie.After-held-at = search in
-    tested-apart _ _ _ _ (after-held-at .held-at .ensures) (else-1 .if1 .left) (after-home-of .home-of .ensures) (else-2 .if2 .left)
-    (c .before .below-pass .ensures) (c .if3 .taken)
+returns-3 c = search tested-apart
 
 returns-4 : tie.Need-returns-4
 unfolding heldAt belowPass modelIn tablesIn

@@ -5,9 +5,7 @@ use Rattle.audit.proofs.held_at.Statement.{statement}
 use Rattle.audit.proofs.held_at.Tie as tie
 
 returns : tie.Need-returns
-returns c =
-    let after-tag-at : tie.After-tag-at = search in let start : tie.Start = search in
-    held-is _ _ _ _ (start .pre .1) (after-tag-at .tag-at .ensures) (c .before .class-of .ensures) (c .word-at .ensures)
+returns c = search held-is
 
 pub held-at-spec : {M : Type 1} → statement M
 held-at-spec =
