@@ -47,29 +47,19 @@ shared-slice-read-is-sound-2 c =
     omega (arith, entry-there _ _ (at-loop .loop .q) (after-place .place .ensures) (start .pre .0 .0) (then-1 .if1 .taken), start .pre .1 .0)
 
 returns : tie.Need-returns Inv-loop μ-loop
-returns c =
-    let then-1 : tie.Then1 Inv-loop μ-loop = search in let at-loop : tie.At-loop Inv-loop μ-loop = search in
-    let after-place : tie.After-place Inv-loop μ-loop = search in let start : tie.Start Inv-loop μ-loop = search in
-    passing-not _ _ _ _ _ (after-place .place .ensures) (start .pre .0 .0) (c .before .is-sound .ensures) (at-loop .loop .inv) (then-1 .if1 .taken)
-    (c .if2 .taken)
+returns c = search passing-not
 
 add-q : tie.Need-add-q Inv-loop μ-loop
-add-q c = let then-1 : tie.Then1 Inv-loop μ-loop = search in omega (arith, then-1 .if1 .taken)
+add-q c = omega arith
 
 loop-less : tie.Need-loop-less Inv-loop μ-loop
-loop-less c = let then-1 : tie.Then1 Inv-loop μ-loop = search in omega (arith, then-1 .if1 .taken)
+loop-less c = omega arith
 
 loop-again : tie.Need-loop-again Inv-loop μ-loop
-loop-again c =
-    let then-1 : tie.Then1 Inv-loop μ-loop = search in let at-loop : tie.At-loop Inv-loop μ-loop = search in
-    let after-place : tie.After-place Inv-loop μ-loop = search in let start : tie.Start Inv-loop μ-loop = search in
-    passing-more _ _ _ _ _ (after-place .place .ensures) (start .pre .0 .0) (c .before .is-sound .ensures) (at-loop .loop .inv) (then-1 .if1 .taken)
-    (c .if2 .left)
+loop-again c = search passing-more
 
 returns-2 : tie.Need-returns-2 Inv-loop μ-loop
-returns-2 c =
-    let at-loop : tie.At-loop Inv-loop μ-loop = search in let after-place : tie.After-place Inv-loop μ-loop = search in
-    passing-done _ _ _ _ _ (after-place .place .ensures) (at-loop .loop .inv) (c .if1 .left)
+returns-2 c = search passing-done
 
 pub column-sound-spec : {M : Type 1} → statement M
 column-sound-spec =

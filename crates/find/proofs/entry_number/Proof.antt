@@ -16,9 +16,7 @@ add-result c =
     omega (arith, entry-small (start .args .shape) _ (start .args .p) (after-place .place .ensures) (start .pre .0 .0) (start .pre .1))
 
 returns : tie.Need-returns
-returns c =
-    let after-place : tie.After-place = search in let start : tie.Start = search in
-    entry-link (start .args .shape) _ _ (after-place .place .ensures)
+returns c = search entry-link
 
 pub entry-number-spec : {M : Type 1} → statement M
 entry-number-spec =

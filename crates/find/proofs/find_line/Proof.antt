@@ -7,12 +7,10 @@ use Rattle.find.proofs.find_line.Statement.{statement}
 use Rattle.find.proofs.find_line.Tie as tie
 
 returns : tie.Need-returns
-returns c = find-misfit _ _ _ (c .before .refusal .ensures) (c .if1 .taken)
+returns c = search find-misfit
 
 returns-2 : tie.Need-returns-2
-returns-2 c =
-    let else-1 : tie.Else1 = search in let after-refusal : tie.After-refusal = search in
-    find-far _ _ _ (after-refusal .refusal .ensures) (else-1 .if1 .left) (c .if2 .taken)
+returns-2 c = search find-far
 
 column-sound-requires : tie.Need-column-sound-requires
 column-sound-requires c κs =
@@ -23,9 +21,7 @@ column-sound-requires c κs =
     ((l .range, c .if2 .left), (l .sizes .tags, l .sizes .states))
 
 returns-3 : tie.Need-returns-3
-returns-3 c =
-    let else-2 : tie.Else2 = search in let else-1 : tie.Else1 = search in let after-refusal : tie.After-refusal = search in
-    find-unsound _ _ _ (after-refusal .refusal .ensures) (else-1 .if1 .left) (else-2 .if2 .left) (c .before .column-sound .ensures) (c .if3 .taken)
+returns-3 c = search find-unsound
 
 first-holder-requires : tie.Need-first-holder-requires
 first-holder-requires c κs =
@@ -37,11 +33,7 @@ first-holder-requires c κs =
     ((l .range, else-2 .if2 .left), (l .sizes .tags, l .sizes .states))
 
 returns-4 : tie.Need-returns-4
-returns-4 c =
-    let after-column-sound : tie.After-column-sound = search in let else-2 : tie.Else2 = search in let else-1 : tie.Else1 = search in
-    let after-refusal : tie.After-refusal = search in
-    find-first _ _ _ (after-refusal .refusal .ensures) (else-1 .if1 .left) (else-2 .if2 .left) (after-column-sound .column-sound .ensures)
-    (c .before .if3 .left) (c .first-holder .ensures)
+returns-4 c = search find-first
 
 pub find-line-spec : {M : Type 1} → statement M
 find-line-spec =

@@ -49,27 +49,19 @@ shared-slice-read-byte-state c =
     omega (arith, entry-there _ _ (at-loop .loop .p) (after-place .place .ensures) (start .pre .0 .0) (then-1 .if1 .taken), start .pre .1 .1)
 
 returns : tie.Need-returns Inv-loop μ-loop
-returns c =
-    let after-byte-state : tie.After-byte-state Inv-loop μ-loop = search in let then-1 : tie.Then1 Inv-loop μ-loop = search in
-    let at-loop : tie.At-loop Inv-loop μ-loop = search in let after-place : tie.After-place Inv-loop μ-loop = search in
-    searching-found _ _ _ _ _ (after-place .place .ensures) (after-byte-state .byte-state .ensures) (c .before .is-valid .ensures)
-    (at-loop .loop .inv) (then-1 .if1 .taken) (c .if2 .taken)
+returns c = search searching-found
 
 add-p : tie.Need-add-p Inv-loop μ-loop
-add-p c = let then-1 : tie.Then1 Inv-loop μ-loop = search in omega (arith, then-1 .if1 .taken)
+add-p c = omega arith
 
 loop-less : tie.Need-loop-less Inv-loop μ-loop
-loop-less c = let then-1 : tie.Then1 Inv-loop μ-loop = search in omega (arith, then-1 .if1 .taken)
+loop-less c = omega arith
 
 loop-again : tie.Need-loop-again Inv-loop μ-loop
-loop-again c =
-    let after-byte-state : tie.After-byte-state Inv-loop μ-loop = search in let then-1 : tie.Then1 Inv-loop μ-loop = search in
-    let at-loop : tie.At-loop Inv-loop μ-loop = search in let after-place : tie.After-place Inv-loop μ-loop = search in
-    searching-more _ _ _ _ _ (after-place .place .ensures) (after-byte-state .byte-state .ensures) (c .before .is-valid .ensures)
-    (at-loop .loop .inv) (then-1 .if1 .taken) (c .if2 .left)
+loop-again c = search searching-more
 
 returns-2 : tie.Need-returns-2 Inv-loop μ-loop
-returns-2 c = let at-loop : tie.At-loop Inv-loop μ-loop = search in searching-done (at-loop .loop .inv) (c .if1 .left)
+returns-2 c = search searching-done
 
 pub first-holder-spec : {M : Type 1} → statement M
 first-holder-spec =

@@ -27,19 +27,13 @@ one-word-requires-2 c κs =
     omega (arith, in-memory _ _ _ (memory-there _ _ _ (after-find-line .find-line .ensures) (c .enum-told2 .given .1)))
 
 returns : tie.Need-returns
-returns c =
-    let after-find-line : tie.After-find-line = search in
-    view-none _ _ _ (after-find-line .find-line .ensures) _ (c .before .enum-told .given .1)
+returns c = search view-none
 
 returns-2 : tie.Need-returns-2
-returns-2 c =
-    let after-found : tie.After-found = search in let after-find-line : tie.After-find-line = search in
-    view-port _ _ _ (after-find-line .find-line .ensures) _ (after-found .found .given .1) (c .before .entry-number .ensures) (c .one-word .ensures)
+returns-2 c = search view-port
 
 returns-3 : tie.Need-returns-3
-returns-3 c =
-    let after-find-line : tie.After-find-line = search in
-    view-memory _ _ _ (after-find-line .find-line .ensures) (c .before .enum-told2 .given .1) (c .one-word2 .ensures)
+returns-3 c = search view-memory
 
 pub view-line-spec : {M : Type 1} → statement M
 view-line-spec =
