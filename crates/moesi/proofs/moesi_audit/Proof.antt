@@ -11,19 +11,13 @@ slice-write-verdict : tie.Need-slice-write-verdict
 slice-write-verdict c = let start : tie.Start = search in let e = eqb-true (length (start .args .verdict .now)) 1 (c .if2 .taken) in omega (arith, e)
 
 returns : tie.Need-returns
-returns c =
-    let after-refusal-by : tie.After-refusal-by = search in
-    audit-refused _ _ _ (after-refusal-by .refusal-by .ensures) (c .before .if1 .taken) (c .if2 .taken)
+returns c = search audit-refused
 
 returns-2 : tie.Need-returns-2
-returns-2 c =
-    let after-refusal-by : tie.After-refusal-by = search in
-    audit-left _ _ _ (after-refusal-by .refusal-by .ensures) (c .before .if1 .taken) (c .if2 .left)
+returns-2 c = search audit-left
 
 audit-tables-requires : tie.Need-audit-tables-requires
-audit-tables-requires c κs =
-    let start : tie.Start = search in
-    audit-fits _ _ (start .args .verdict .now) (c .before .refusal-by .ensures) (c .if1 .left)
+audit-tables-requires c κs = search audit-fits
 
 slice-write-verdict-2 : tie.Need-slice-write-verdict-2
 slice-write-verdict-2 c =
@@ -32,9 +26,7 @@ slice-write-verdict-2 c =
     omega (arith, e)
 
 returns-3 : tie.Need-returns-3
-returns-3 c =
-    let else-1 : tie.Else1 = search in let after-refusal-by : tie.After-refusal-by = search in
-    audit-accepted _ _ _ (after-refusal-by .refusal-by .ensures) (else-1 .if1 .left) (c .before .audit-tables .ensures) (c .yes-or-no .ensures)
+returns-3 c = search audit-accepted
 
 pub moesi-audit-spec : {M : Type 1} → statement M
 moesi-audit-spec =

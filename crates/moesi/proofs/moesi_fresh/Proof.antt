@@ -15,7 +15,7 @@ returns c =
     (after-clear-bytes2 .clear-bytes2 .ensures) (after-clear-bytes3 .clear-bytes3 .ensures)
 
 returns-2 : tie.Need-returns-2
-returns-2 c = fresh-refused _ _ (c .before .refusal-by .ensures) (c .if1 .left)
+returns-2 c = search fresh-refused
 
 pub moesi-fresh-spec : {M : Type 1} → statement M
 moesi-fresh-spec =

@@ -11,15 +11,10 @@ put-answer-requires : tie.Need-put-answer-requires
 put-answer-requires c κs = eqb-true _ _ (c .before .if2 .taken)
 
 returns : tie.Need-returns
-returns c =
-    let after-put-answer : tie.After-put-answer = search in let then-2 : tie.Then2 = search in let then-1 : tie.Then1 = search in
-    let after-refusal-by : tie.After-refusal-by = search in
-    step-answered _ _ _ _ (after-refusal-by .refusal-by .ensures) (then-1 .if1 .taken) (then-2 .if2 .taken) (after-put-answer .put-answer .ensures)
+returns c = search step-answered
 
 returns-2 : tie.Need-returns-2
-returns-2 c =
-    let after-refusal-by : tie.After-refusal-by = search in
-    step-unanswered _ _ _ _ (after-refusal-by .refusal-by .ensures) (c .before .if1 .taken) (c .if2 .left)
+returns-2 c = search step-unanswered
 
 step-order-requires : tie.Need-step-order-requires
 step-order-requires c κs =
