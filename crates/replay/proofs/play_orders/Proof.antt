@@ -19,7 +19,7 @@ mul-data-bytes : tie.Need-mul-data-bytes
 mul-data-bytes c = let start : tie.Start = search in omega (arith, entries-few _ (start .pre .0) (c .before .entries .ensures))
 
 array-borrow-prefix-memory : tie.Need-array-borrow-prefix-memory
-array-borrow-prefix-memory c = let start : tie.Start = search in memory-few _ (start .pre .0)
+array-borrow-prefix-memory c = search memory-few
 
 slice-aggregate-run-and-audit : tie.Need-slice-aggregate-run-and-audit
 slice-aggregate-run-and-audit c = let start : tie.Start = search in sym (length-take-le _ _ (memory-few _ (start .pre .0)))
@@ -35,9 +35,7 @@ slice-aggregate-run-and-audit-2 c =
     sym (length-take-le _ _ (omega (arith, entries-few _ (start .pre .0) (after-entries .entries .ensures))))
 
 array-borrow-prefix-states : tie.Need-array-borrow-prefix-states
-array-borrow-prefix-states c =
-    let after-entries : tie.After-entries = search in let start : tie.Start = search in
-    entries-few _ (start .pre .0) (after-entries .entries .ensures)
+array-borrow-prefix-states c = search entries-few
 
 slice-aggregate-run-and-audit-3 : tie.Need-slice-aggregate-run-and-audit-3
 slice-aggregate-run-and-audit-3 c =

@@ -7,7 +7,7 @@ use Rattle.replay.proofs.put_answer.Statement.{statement}
 use Rattle.replay.proofs.put_answer.Tie as tie
 
 returns : tie.Need-returns
-returns c = five-stored (c .args .answers .now) (c .args .at) (c .args .a)
+returns c = search five-stored
 
 pub put-answer-spec : {M : Type 1} → statement M
 put-answer-spec =

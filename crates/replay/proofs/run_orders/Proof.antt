@@ -14,19 +14,19 @@ abbrev μ-loop : tie.MeasureT-loop
 μ-loop shape memory₀ tags₀ states₀ data₀ words operands n answers₀ k₀ memory tags states «data» answers k = n - k
 
 loop-holds : tie.Need-loop-holds Inv-loop μ-loop
-loop-holds c = let start : tie.Start Inv-loop μ-loop = search in running-none _ _ _ _ _ _ (start .pre .0)
+loop-holds c = search running-none
 
 mul-read-eight : tie.Need-mul-read-eight Inv-loop μ-loop
-mul-read-eight c = let start : tie.Start Inv-loop μ-loop = search in omega (arith, c .loop-test .taken, start .pre .1)
+mul-read-eight c = omega arith
 
 read-eight-requires : tie.Need-read-eight-requires Inv-loop μ-loop
-read-eight-requires c κs = let start : tie.Start Inv-loop μ-loop = search in omega (arith, c .loop-test .taken, start .pre .1)
+read-eight-requires c κs = omega arith
 
 mul-read-eight-2 : tie.Need-mul-read-eight-2 Inv-loop μ-loop
-mul-read-eight-2 c = let start : tie.Start Inv-loop μ-loop = search in omega (arith, c .before .loop-test .taken, start .pre .1)
+mul-read-eight-2 c = omega arith
 
 read-eight-requires-2 : tie.Need-read-eight-requires-2 Inv-loop μ-loop
-read-eight-requires-2 c κs = let start : tie.Start Inv-loop μ-loop = search in omega (arith, c .before .loop-test .taken, start .pre .1)
+read-eight-requires-2 c κs = omega arith
 
 step-order-requires : tie.Need-step-order-requires Inv-loop μ-loop
 step-order-requires c κs = let at-loop : tie.At-loop Inv-loop μ-loop = search in at-loop .loop .inv .fits
@@ -37,10 +37,7 @@ mul-put-answer c =
     omega (arith, in-loop .loop-test .taken, start .pre .1, start .good)
 
 put-answer-requires : tie.Need-put-answer-requires Inv-loop μ-loop
-put-answer-requires c κs =
-    let in-loop : tie.In-loop Inv-loop μ-loop = search in let at-loop : tie.At-loop Inv-loop μ-loop = search in
-    let start : tie.Start Inv-loop μ-loop = search in
-    omega (arith, in-loop .loop-test .taken, start .pre .1, at-loop .loop .inv .same)
+put-answer-requires c κs = omega arith
 
 add-k : tie.Need-add-k Inv-loop μ-loop
 add-k c =
@@ -48,7 +45,7 @@ add-k c =
     omega (arith, in-loop .loop-test .taken, start .fits)
 
 loop-less : tie.Need-loop-less Inv-loop μ-loop
-loop-less c = let in-loop : tie.In-loop Inv-loop μ-loop = search in omega (arith, in-loop .loop-test .taken)
+loop-less c = omega arith
 
 loop-again : tie.Need-loop-again Inv-loop μ-loop
 loop-again c =
@@ -62,22 +59,16 @@ loop-again c =
     (after-put-answer .put-answer .ensures)
 
 same-length : tie.Need-same-length Inv-loop μ-loop
-same-length c = let start : tie.Start Inv-loop μ-loop = search in omega (arith, c .before .loop .inv .fits .memory-fits, start .pre .0 .memory-fits)
+same-length c = omega arith
 
 same-length-2 : tie.Need-same-length-2 Inv-loop μ-loop
-same-length-2 c =
-    let start : tie.Start Inv-loop μ-loop = search in
-    omega (arith, c .before .loop .inv .fits .filled .tags-fit, start .pre .0 .filled .tags-fit)
+same-length-2 c = omega arith
 
 same-length-3 : tie.Need-same-length-3 Inv-loop μ-loop
-same-length-3 c =
-    let start : tie.Start Inv-loop μ-loop = search in
-    omega (arith, c .before .loop .inv .fits .filled .states-fit, start .pre .0 .filled .states-fit)
+same-length-3 c = omega arith
 
 same-length-4 : tie.Need-same-length-4 Inv-loop μ-loop
-same-length-4 c =
-    let start : tie.Start Inv-loop μ-loop = search in
-    omega (arith, c .before .loop .inv .fits .filled .words-fit, start .pre .0 .filled .words-fit)
+same-length-4 c = omega arith
 
 same-length-5 : tie.Need-same-length-5 Inv-loop μ-loop
 same-length-5 c = c .before .loop .inv .same

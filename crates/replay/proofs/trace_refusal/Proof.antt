@@ -8,12 +8,10 @@ returns : tie.Need-returns
 returns c = refused-short _ (c .if1 .taken)
 
 returns-2 : tie.Need-returns-2
-returns-2 c = let else-1 : tie.Else1 = search in refused-many _ (else-1 .if1 .left) (c .before .orders-in .ensures .0) (c .if2 .taken)
+returns-2 c = search refused-many
 
 returns-3 : tie.Need-returns-3
-returns-3 c =
-    let after-orders-in : tie.After-orders-in = search in let else-1 : tie.Else1 = search in
-    refused-misfit _ (else-1 .if1 .left) (after-orders-in .orders-in .ensures .0) (c .before .if2 .left) (c .if3 .taken)
+returns-3 c = search refused-misfit
 
 returns-4 : tie.Need-returns-4
 returns-4 c =
