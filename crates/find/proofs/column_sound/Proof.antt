@@ -49,12 +49,6 @@ shared-slice-read-is-sound-2 c =
 returns : tie.Need-returns Inv-loop μ-loop
 returns c = search passing-not
 
-add-q : tie.Need-add-q Inv-loop μ-loop
-add-q c = omega arith
-
-loop-less : tie.Need-loop-less Inv-loop μ-loop
-loop-less c = omega arith
-
 loop-again : tie.Need-loop-again Inv-loop μ-loop
 loop-again c = search passing-more
 
@@ -76,7 +70,7 @@ column-sound-spec =
     shared-slice-read-is-sound-2
     (λ c κs. search needs)
     returns
-    add-q
-    loop-less
+    (λ c. search needs)
+    (λ c. search needs)
     loop-again
     returns-2)

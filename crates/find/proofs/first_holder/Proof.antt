@@ -51,12 +51,6 @@ shared-slice-read-byte-state c =
 returns : tie.Need-returns Inv-loop μ-loop
 returns c = search searching-found
 
-add-p : tie.Need-add-p Inv-loop μ-loop
-add-p c = omega arith
-
-loop-less : tie.Need-loop-less Inv-loop μ-loop
-loop-less c = omega arith
-
 loop-again : tie.Need-loop-again Inv-loop μ-loop
 loop-again c = search searching-more
 
@@ -79,7 +73,7 @@ first-holder-spec =
     (λ c κs. search needs)
     (λ c κs. search needs)
     returns
-    add-p
-    loop-less
+    (λ c. search needs)
+    (λ c. search needs)
     loop-again
     returns-2)

@@ -9,12 +9,6 @@ use Rattle.caches.proofs.Accesses.{column-unsound, column-sound}
 use Rattle.caches.proofs.access.access_line.Statement.{statement}
 use Rattle.caches.proofs.access.access_line.Tie as tie
 
-line-of-requires : tie.Need-line-of-requires
-line-of-requires c κs = let start : tie.Start = search in (start .pre .0 .range, start .pre .1 .1)
-
-word-at-requires : tie.Need-word-at-requires
-word-at-requires c κs = let start : tie.Start = search in in-memory (start .pre .0) (start .pre .1 .1)
-
 survey-ports-requires : tie.Need-survey-ports-requires
 unfolding lineOf
 survey-ports-requires c κs =
@@ -64,8 +58,8 @@ pub access-line-spec : {M : Type 1} → statement M
 access-line-spec =
     tie.close
     (tie.spec
-    line-of-requires
-    word-at-requires
+    (λ c κs. search needs)
+    (λ c κs. search needs)
     survey-ports-requires
     (λ c κs. search needs)
     (λ c. search needs)

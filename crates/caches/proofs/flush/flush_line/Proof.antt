@@ -17,9 +17,6 @@ use Rattle.caches.proofs.flush.flush_line.Tie as tie
 abbrev start-of-line-of : tie.After-line-of → tie.Start
 start-of-line-of c = c .before .before .before .before .before
 
-line-of-requires : tie.Need-line-of-requires
-line-of-requires c κs = let start : tie.Start = search in (start .pre .0 .range, start .pre .1 .1)
-
 survey-ports-requires : tie.Need-survey-ports-requires
 unfolding lineOf
 survey-ports-requires c κs =
@@ -87,7 +84,7 @@ pub flush-line-spec : {M : Type 1} → statement M
 flush-line-spec =
     tie.close
     (tie.spec
-    line-of-requires
+    (λ c κs. search needs)
     survey-ports-requires
     (λ c κs. search needs)
     (λ c. search needs)

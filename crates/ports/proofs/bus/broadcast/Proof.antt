@@ -87,15 +87,6 @@ loop-again c =
     (omega (arith, start .fits .w)) (k .0) (k .1 .0) (k .1 .1 .0) (after-command-of .command-of .ensures)
     (after-answer-from .answer-from .ensures)
 
-same-length : tie.Need-same-length Inv-loop μ-loop
-same-length c = omega arith
-
-same-length-2 : tie.Need-same-length-2 Inv-loop μ-loop
-same-length-2 c = omega arith
-
-same-length-3 : tie.Need-same-length-3 Inv-loop μ-loop
-same-length-3 c = omega arith
-
 returns : tie.Need-returns Inv-loop μ-loop
 returns c = search telling-done
 
@@ -116,7 +107,7 @@ broadcast-spec =
     add-p
     loop-less
     loop-again
-    same-length
-    same-length-2
-    same-length-3
+    (λ c. search needs)
+    (λ c. search needs)
+    (λ c. search needs)
     returns)

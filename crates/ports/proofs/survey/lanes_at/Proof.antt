@@ -5,12 +5,6 @@ use Rattle.ports.proofs.Surveys.{lanes-are, row-fits, shift-below}
 use Rattle.ports.proofs.survey.lanes_at.Statement.{statement}
 use Rattle.ports.proofs.survey.lanes_at.Tie as tie
 
-mul-near : tie.Need-mul-near
-mul-near c = omega (arith, row-fits (c .state-row .ensures))
-
-mul-far : tie.Need-mul-far
-mul-far c = omega (arith, row-fits (c .state-row .ensures))
-
 add-far : tie.Need-add-far
 add-far c = omega (arith, row-fits (c .state-row .ensures))
 
@@ -25,8 +19,8 @@ lanes-at-spec =
     tie.close
     (tie.spec
     (λ c κs. search needs)
-    mul-near
-    mul-far
+    (λ c. search needs)
+    (λ c. search needs)
     add-far
     (λ c κs. search needs)
     (λ c κs. search needs)
