@@ -27,23 +27,16 @@ returns c =
           (start .args .words .now)) _ (rw (after-line-of .line-of .ensures) at (after-survey-ports .survey-ports .ensures)) (c .before .if1 .taken),
     )
 
+-- What access_sound asks, with the line written out as line_of gives it.
 access-sound-requires : tie.Need-access-sound-requires
 unfolding lineOf
 access-sound-requires c κs =
     let else-1 : tie.Else1 = search in let after-survey-ports : tie.After-survey-ports = search in let after-word-at : tie.After-word-at = search in
-    let after-line-of : tie.After-line-of = search in let start : tie.Start = search in (
-      rw (after-line-of .line-of .ensures) (start .pre .0),
-      (
-        placed _ _ (start .pre .0 .range) (start .pre .1 .1) (after-line-of .line-of .ensures),
-        (
-          rw (after-line-of .line-of .ensures) (start .pre .1 .0),
-          (
-            (after-survey-ports .survey-ports .ensures, not-false _ (else-1 .if1 .left)),
-            rw (after-line-of .line-of .ensures) (memory-word (start .pre .0) (start .pre .1 .1) (after-word-at .word-at .ensures)),
-          ),
-        ),
-      ),
-    )
+    let after-line-of : tie.After-line-of = search in let start : tie.Start = search in
+    let e = after-line-of .line-of .ensures in
+    let at = placed _ _ (start .pre .0 .range) (start .pre .1 .1) e in
+    let word = memory-word (start .pre .0) (start .pre .1 .1) (after-word-at .word-at .ensures) in
+    (rw e (start .pre .0), (at, (rw e (start .pre .1 .0), ((after-survey-ports .survey-ports .ensures, not-false _ (else-1 .if1 .left)), rw e word))))
 
 returns-2 : tie.Need-returns-2
 unfolding lineOf
