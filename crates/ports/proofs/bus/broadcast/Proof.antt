@@ -1,6 +1,6 @@
 -- The ports of the mask answer, one after the other. Assumes nothing.
 use borrow.Author.Needs.{needs}
-use Prim.Native.Nat.{_+_, _-_}
+use Prim.Native.Nat.{_+_, _-_, _<_}
 use native.Mathlib.Omega.{arith}
 use lib.Count.{trailingZeros, trailing-le}
 use Rattle.ports.proofs.Places.{small, few}
@@ -15,6 +15,14 @@ Inv-loop tags₀ states₀ words₀ line i others bus w c sets rest₀ p₀ tags
 abbrev μ-loop : tie.MeasureT-loop
 μ-loop tags₀ states₀ words₀ line i others bus w c sets rest₀ p₀ tags states words rest p = line .shape .ports - p
 
+-- The start, seen from a turn.
+abbrev start : tie.In-loop Inv-loop μ-loop → tie.Start Inv-loop μ-loop
+start c = search
+
+-- The next port of the mask is one of the ports, and those are few.
+next : (c : tie.In-loop Inv-loop μ-loop) → c .before .loop .p + trailingZeros 64 (c .before .loop .rest) < start c .args .line .shape .ports
+next c = search next-below
+
 loop-holds : tie.Need-loop-holds Inv-loop μ-loop
 loop-holds c = search telling-none
 
@@ -22,60 +30,25 @@ cast-q : tie.Need-cast-q Inv-loop μ-loop
 cast-q c = omega (arith, trailing-le 64 (c .before .loop .rest))
 
 add-q : tie.Need-add-q Inv-loop μ-loop
-add-q c =
-    let start : tie.Start Inv-loop μ-loop = search in
-    omega (
-      arith,
-      next-below (start .pre .1 .0) _ _ _ (start .pre .0) (start .pre .1 .1 .0) (c .before .loop .inv) (c .loop-test .taken),
-      few (start .pre .1 .0),
-    )
+add-q c = omega (arith, next c, few (start c .pre .1 .0))
 
 mul-answer-from : tie.Need-mul-answer-from Inv-loop μ-loop
-mul-answer-from c =
-    let in-loop : tie.In-loop Inv-loop μ-loop = search in let at-loop : tie.At-loop Inv-loop μ-loop = search in
-    let start : tie.Start Inv-loop μ-loop = search in
-    omega (
-      arith,
-      small (start .pre .1 .0) (at-loop .loop .p + trailingZeros 64 (at-loop .loop .rest))
-          (next-below (start .pre .1 .0) _ _ _ (start .pre .0) (start .pre .1 .1 .0) (at-loop .loop .inv) (in-loop .loop-test .taken)),
-    )
+mul-answer-from c = let turn : tie.In-loop Inv-loop μ-loop = search in let h = small (start turn .pre .1 .0) _ (next turn) in omega arith
 
 answer-from-requires : tie.Need-answer-from-requires Inv-loop μ-loop
-answer-from-requires c κs =
-    let in-loop : tie.In-loop Inv-loop μ-loop = search in let at-loop : tie.At-loop Inv-loop μ-loop = search in
-    let start : tie.Start Inv-loop μ-loop = search in (
-      next-room (start .pre .1 .0) _ _ _ (start .pre .0) (start .pre .1 .1 .0) (at-loop .loop .inv) (in-loop .loop-test .taken),
-      next-holder (start .pre .1 .0) _ _ _ (start .pre .0) (start .pre .1 .1 .0) (at-loop .loop .inv) (in-loop .loop-test .taken),
-    )
+answer-from-requires c κs = (search next-room, search next-holder)
 
 cast-rest : tie.Need-cast-rest Inv-loop μ-loop
 cast-rest c = let at-loop : tie.At-loop Inv-loop μ-loop = search in omega (arith, trailing-le 64 (at-loop .loop .rest))
 
 shr-rest : tie.Need-shr-rest Inv-loop μ-loop
-shr-rest c =
-    let in-loop : tie.In-loop Inv-loop μ-loop = search in let at-loop : tie.At-loop Inv-loop μ-loop = search in
-    let start : tie.Start Inv-loop μ-loop = search in
-    omega (
-      arith,
-      next-below (start .pre .1 .0) _ _ _ (start .pre .0) (start .pre .1 .1 .0) (at-loop .loop .inv) (in-loop .loop-test .taken),
-      few (start .pre .1 .0),
-    )
+shr-rest c = let turn : tie.In-loop Inv-loop μ-loop = search in omega (arith, next turn, few (start turn .pre .1 .0))
 
 add-p : tie.Need-add-p Inv-loop μ-loop
-add-p c =
-    let in-loop : tie.In-loop Inv-loop μ-loop = search in let at-loop : tie.At-loop Inv-loop μ-loop = search in
-    let start : tie.Start Inv-loop μ-loop = search in
-    omega (
-      arith,
-      next-below (start .pre .1 .0) _ _ _ (start .pre .0) (start .pre .1 .1 .0) (at-loop .loop .inv) (in-loop .loop-test .taken),
-      few (start .pre .1 .0),
-    )
+add-p c = let turn : tie.In-loop Inv-loop μ-loop = search in omega (arith, next turn, few (start turn .pre .1 .0))
 
 loop-less : tie.Need-loop-less Inv-loop μ-loop
-loop-less c =
-    let in-loop : tie.In-loop Inv-loop μ-loop = search in let at-loop : tie.At-loop Inv-loop μ-loop = search in
-    let start : tie.Start Inv-loop μ-loop = search in
-    omega (arith, next-below (start .pre .1 .0) _ _ _ (start .pre .0) (start .pre .1 .1 .0) (at-loop .loop .inv) (in-loop .loop-test .taken))
+loop-less c = let turn : tie.In-loop Inv-loop μ-loop = search in omega (arith, next turn)
 
 loop-again : tie.Need-loop-again Inv-loop μ-loop
 loop-again c =
