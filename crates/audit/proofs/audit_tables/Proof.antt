@@ -29,12 +29,6 @@ returns c =
     passing-fails _ (at-loop .loop .inv) (in-loop .loop-test .taken) (c .before .index-passes .ensures) (c .if1 .taken) ∙ columns-say _ _
     (start .pre)
 
-add-x : tie.Need-add-x Inv-loop μ-loop
-add-x c = omega arith
-
-loop-less : tie.Need-loop-less Inv-loop μ-loop
-loop-less c = omega arith
-
 loop-again : tie.Need-loop-again Inv-loop μ-loop
 loop-again c = search passing-more
 
@@ -53,7 +47,7 @@ audit-tables-spec =
     loop-holds
     index-passes-requires
     returns
-    add-x
-    loop-less
+    (λ c. omega arith)
+    (λ c. omega arith)
     loop-again
     returns-2)

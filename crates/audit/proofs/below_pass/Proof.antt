@@ -30,12 +30,6 @@ returns : tie.Need-returns Inv-loop μ-loop
 unfolding belowPass
 returns c = search passing-fails
 
-add-q : tie.Need-add-q Inv-loop μ-loop
-add-q c = omega arith
-
-loop-less : tie.Need-loop-less Inv-loop μ-loop
-loop-less c = omega arith
-
 loop-again : tie.Need-loop-again Inv-loop μ-loop
 loop-again c = search passing-more
 
@@ -54,7 +48,7 @@ below-pass-spec =
     add-k
     pair-passes-requires
     returns
-    add-q
-    loop-less
+    (λ c. omega arith)
+    (λ c. omega arith)
     loop-again
     returns-2)

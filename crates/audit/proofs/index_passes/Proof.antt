@@ -23,12 +23,6 @@ returns : tie.Need-returns Inv-loop μ-loop
 unfolding indexPasses
 returns c = search passing-fails
 
-add-p : tie.Need-add-p Inv-loop μ-loop
-add-p c = omega arith
-
-loop-less : tie.Need-loop-less Inv-loop μ-loop
-loop-less c = omega arith
-
 loop-again : tie.Need-loop-again Inv-loop μ-loop
 loop-again c = search passing-more
 
@@ -45,7 +39,7 @@ index-passes-spec =
     loop-holds
     entry-passes-requires
     returns
-    add-p
-    loop-less
+    (λ c. omega arith)
+    (λ c. omega arith)
     loop-again
     returns-2)

@@ -31,12 +31,6 @@ returns : tie.Need-returns Inv-loop μ-loop
 unfolding ownedAt
 returns c = search seeking-found
 
-add-port : tie.Need-add-port Inv-loop μ-loop
-add-port c = omega arith
-
-loop-less : tie.Need-loop-less Inv-loop μ-loop
-loop-less c = omega arith
-
 loop-again : tie.Need-loop-again Inv-loop μ-loop
 loop-again c = search seeking-more
 
@@ -55,7 +49,7 @@ owned-at-spec =
     add-k
     owns-at-requires
     returns
-    add-port
-    loop-less
+    (λ c. omega arith)
+    (λ c. omega arith)
     loop-again
     returns-2)

@@ -18,12 +18,6 @@ loop-holds c = clearing-none _
 slice-write-table : tie.Need-slice-write-table Inv-loop μ-loop
 slice-write-table c = c .loop-test .taken
 
-add-k : tie.Need-add-k Inv-loop μ-loop
-add-k c = omega arith
-
-loop-less : tie.Need-loop-less Inv-loop μ-loop
-loop-less c = omega arith
-
 loop-again : tie.Need-loop-again Inv-loop μ-loop
 loop-again c = search clearing-more
 
@@ -41,8 +35,8 @@ clear-bytes-spec =
     μ-loop
     loop-holds
     slice-write-table
-    add-k
-    loop-less
+    (λ c. omega arith)
+    (λ c. omega arith)
     loop-again
     same-length
     returns)

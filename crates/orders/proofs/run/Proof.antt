@@ -12,9 +12,6 @@ Inv-loop s memory₀ tags₀ states₀ data₀ orders k₀ place₀ memory tags 
 abbrev μ-loop : tie.MeasureT-loop
 μ-loop s memory₀ tags₀ states₀ data₀ orders k₀ place₀ memory tags states «data» k place = length orders - k
 
-loop-holds : tie.Need-loop-holds Inv-loop μ-loop
-loop-holds c = omega arith
-
 loop-again : tie.Need-loop-again Inv-loop μ-loop
 loop-again c = omega (arith, c .before .before .before .before .before .before .before .loop-test .taken)
 
@@ -24,7 +21,7 @@ run-spec =
     (tie.spec
     Inv-loop
     μ-loop
-    loop-holds
+    (λ c. omega arith)
     (λ c. search needs)
     (λ c. search needs)
     (λ c. search needs)

@@ -16,18 +16,6 @@ abbrev μ-loop : tie.MeasureT-loop
 loop-holds : tie.Need-loop-holds Inv-loop μ-loop
 loop-holds c = search running-none
 
-mul-read-eight : tie.Need-mul-read-eight Inv-loop μ-loop
-mul-read-eight c = omega arith
-
-read-eight-requires : tie.Need-read-eight-requires Inv-loop μ-loop
-read-eight-requires c κs = omega arith
-
-mul-read-eight-2 : tie.Need-mul-read-eight-2 Inv-loop μ-loop
-mul-read-eight-2 c = omega arith
-
-read-eight-requires-2 : tie.Need-read-eight-requires-2 Inv-loop μ-loop
-read-eight-requires-2 c κs = omega arith
-
 step-order-requires : tie.Need-step-order-requires Inv-loop μ-loop
 step-order-requires c κs = let at-loop : tie.At-loop Inv-loop μ-loop = search in at-loop .loop .inv .fits
 
@@ -36,16 +24,10 @@ mul-put-answer c =
     let in-loop : tie.In-loop Inv-loop μ-loop = search in let start : tie.Start Inv-loop μ-loop = search in
     omega (arith, in-loop .loop-test .taken, start .pre .1, start .good)
 
-put-answer-requires : tie.Need-put-answer-requires Inv-loop μ-loop
-put-answer-requires c κs = omega arith
-
 add-k : tie.Need-add-k Inv-loop μ-loop
 add-k c =
     let in-loop : tie.In-loop Inv-loop μ-loop = search in let start : tie.Start Inv-loop μ-loop = search in
     omega (arith, in-loop .loop-test .taken, start .fits)
-
-loop-less : tie.Need-loop-less Inv-loop μ-loop
-loop-less c = omega arith
 
 loop-again : tie.Need-loop-again Inv-loop μ-loop
 loop-again c =
@@ -57,18 +39,6 @@ loop-again c =
     running-more _ _ _ _ (at-loop .loop .inv) (in-loop .loop-test .taken) (after-read-eight .read-eight .ensures)
     (after-read-eight2 .read-eight2 .ensures) _ (after-step-order .step-order .ensures) (e .1 .0) (e .1 .1 .0) (e .1 .1 .1 .0) (e .1 .1 .1 .1 .0)
     (after-put-answer .put-answer .ensures)
-
-same-length : tie.Need-same-length Inv-loop μ-loop
-same-length c = omega arith
-
-same-length-2 : tie.Need-same-length-2 Inv-loop μ-loop
-same-length-2 c = omega arith
-
-same-length-3 : tie.Need-same-length-3 Inv-loop μ-loop
-same-length-3 c = omega arith
-
-same-length-4 : tie.Need-same-length-4 Inv-loop μ-loop
-same-length-4 c = omega arith
 
 same-length-5 : tie.Need-same-length-5 Inv-loop μ-loop
 same-length-5 c = c .before .loop .inv .same
@@ -83,19 +53,19 @@ run-orders-spec =
     Inv-loop
     μ-loop
     loop-holds
-    mul-read-eight
-    read-eight-requires
-    mul-read-eight-2
-    read-eight-requires-2
+    (λ c. omega arith)
+    (λ c κs. omega arith)
+    (λ c. omega arith)
+    (λ c κs. omega arith)
     step-order-requires
     mul-put-answer
-    put-answer-requires
+    (λ c κs. omega arith)
     add-k
-    loop-less
+    (λ c. omega arith)
     loop-again
-    same-length
-    same-length-2
-    same-length-3
-    same-length-4
+    (λ c. omega arith)
+    (λ c. omega arith)
+    (λ c. omega arith)
+    (λ c. omega arith)
     same-length-5
     returns)
