@@ -152,7 +152,8 @@ fn entry_passes(
 ) -> bool
     requires { ⌜ Fitting shape (bytes (now memory) (now tags) (now states) (now words)) ⌝ }
     requires { ⌜ (x < shape .sets) × (p < shape .ports) ⌝ }
-    ensures { λ r. ⌜ r ≡ entryPasses shape (modelIn shape (bytes (now (memory .entry)) (now (tags .entry)) (now (states .entry)) (now (words .entry)))) x p ⌝ }
+    ensures { λ r. ⌜ r ≡ entryPasses shape
+        (modelIn shape (bytes (now (memory .entry)) (now (tags .entry)) (now (states .entry)) (now (words .entry)))) x p ⌝ }
 {
     let sets = shape.sets;
     let k = p * sets + x;
@@ -184,7 +185,8 @@ fn index_passes(
 ) -> bool
     requires { ⌜ Fitting shape (bytes (now memory) (now tags) (now states) (now words)) ⌝ }
     requires { ⌜ x < shape .sets ⌝ }
-    ensures { λ r. ⌜ r ≡ indexPasses shape (modelIn shape (bytes (now (memory .entry)) (now (tags .entry)) (now (states .entry)) (now (words .entry)))) x ⌝ }
+    ensures { λ r. ⌜ r ≡ indexPasses shape
+        (modelIn shape (bytes (now (memory .entry)) (now (tags .entry)) (now (states .entry)) (now (words .entry)))) x ⌝ }
 {
     let ports = shape.ports;
     let mut p = 0;

@@ -39,8 +39,13 @@ fn find_word(
 ) -> u64
     requires { ⌜ Filled (line .shape) (now tags) (now states) (now words) ⌝ }
     requires { ⌜ Placed line ⌝ }
-    requires { ⌜ owners ≡ portsFrom (owns (line .shape) (tablesIn (line .shape) (now tags) (now states) (now words)) (line .number)) 0 (line .shape .ports) ⌝ }
-    ensures { λ r. ⌜ r ≡ cond hit own (atOr (wordAt (line .shape) (tablesIn (line .shape) (now (tags .entry)) (now (states .entry)) (now (words .entry))) (line .number)) memory (lowest (owns (line .shape) (tablesIn (line .shape) (now (tags .entry)) (now (states .entry)) (now (words .entry))) (line .number)) (line .shape .ports))) ⌝ }
+    requires { ⌜ owners ≡ portsFrom (owns (line .shape) (tablesIn (line .shape) (now tags) (now states) (now words)) (line .number)) 0
+        (line .shape .ports) ⌝ }
+    ensures { λ r. ⌜ r ≡ cond hit own (atOr
+        (wordAt (line .shape) (tablesIn (line .shape) (now (tags .entry)) (now (states .entry)) (now (words .entry))) (line .number))
+        memory
+        (lowest (owns (line .shape) (tablesIn (line .shape) (now (tags .entry)) (now (states .entry)) (now (words .entry))) (line .number))
+        (line .shape .ports))) ⌝ }
 {
     if hit {
         return own;
@@ -71,7 +76,10 @@ fn access_sound(
     requires { ⌜ i < line .shape .ports ⌝ }
     requires { ⌜ (said ≡ masksOf (line .shape) (tablesIn (line .shape) (now tags) (now states) (now words)) (line .number)) × (said .sound ≡ true) ⌝ }
     requires { ⌜ fetched ≡ memoryAt (modelIn (line .shape) (bytes (now memory) (now tags) (now states) (now words))) (line .number) ⌝ }
-    ensures { λ r. ⌜ result r (modelIn (line .shape) (bytes (now (memory .exit)) (now (tags .exit)) (now (states .exit)) (now (words .exit)))) ≡ accessed (line .shape) (modelIn (line .shape) (bytes (now (memory .entry)) (now (tags .entry)) (now (states .entry)) (now (words .entry)))) i (line .number) acc m ⌝ }
+    ensures { λ r. ⌜ result r (modelIn (line .shape) (bytes (now (memory .exit)) (now (tags .exit)) (now (states .exit)) (now (words .exit))))
+        ≡ accessed (line .shape)
+        (modelIn (line .shape) (bytes (now (memory .entry)) (now (tags .entry)) (now (states .entry)) (now (words .entry))))
+        i (line .number) acc m ⌝ }
 {
     let shape = line.shape;
     let sets = shape.sets;
@@ -127,7 +135,9 @@ pub fn access_line(
 ) -> Answer
     requires { ⌜ Fitting shape (bytes (now memory) (now tags) (now states) (now words)) ⌝ }
     requires { ⌜ (i < shape .ports) × (a < shape .lines) ⌝ }
-    ensures { λ r. ⌜ result r (modelIn shape (bytes (now (memory .exit)) (now (tags .exit)) (now (states .exit)) (now (words .exit)))) ≡ ifSound shape (modelIn shape (bytes (now (memory .entry)) (now (tags .entry)) (now (states .entry)) (now (words .entry)))) a (accessed shape (modelIn shape (bytes (now (memory .entry)) (now (tags .entry)) (now (states .entry)) (now (words .entry)))) i a acc m) ⌝ }
+    ensures { λ r. ⌜ result r (modelIn shape (bytes (now (memory .exit)) (now (tags .exit)) (now (states .exit)) (now (words .exit))))
+        ≡ ifSound shape (modelIn shape (bytes (now (memory .entry)) (now (tags .entry)) (now (states .entry)) (now (words .entry)))) a
+        (accessed shape (modelIn shape (bytes (now (memory .entry)) (now (tags .entry)) (now (states .entry)) (now (words .entry)))) i a acc m) ⌝ }
 {
     let line = line::line_of(shape, a);
     let fetched = entry::word_at(memory, a);

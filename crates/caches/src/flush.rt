@@ -35,7 +35,9 @@ pub fn flush_line(
 ) -> Answer
     requires { ⌜ Fitting shape (bytes (now memory) (now tags) (now states) (now words)) ⌝ }
     requires { ⌜ (i < shape .ports) × (a < shape .lines) ⌝ }
-    ensures { λ r. ⌜ result r (modelIn shape (bytes (now (memory .exit)) (now (tags .entry)) (now (states .exit)) (now (words .entry)))) ≡ ifSound shape (modelIn shape (bytes (now (memory .entry)) (now (tags .entry)) (now (states .entry)) (now (words .entry)))) a (flushed shape (modelIn shape (bytes (now (memory .entry)) (now (tags .entry)) (now (states .entry)) (now (words .entry)))) i a) ⌝ }
+    ensures { λ r. ⌜ result r (modelIn shape (bytes (now (memory .exit)) (now (tags .entry)) (now (states .exit)) (now (words .entry))))
+        ≡ ifSound shape (modelIn shape (bytes (now (memory .entry)) (now (tags .entry)) (now (states .entry)) (now (words .entry)))) a
+        (flushed shape (modelIn shape (bytes (now (memory .entry)) (now (tags .entry)) (now (states .entry)) (now (words .entry)))) i a) ⌝ }
 {
     let line = line::line_of(shape, a);
     let said = survey::survey_ports(tags, states, words, line);

@@ -43,7 +43,8 @@ fn refusal_by(
 // The five numbers, 64 bits each.
 fn put_answer(out: &mut [u8], refusal: u64, value: u64, swapped: u64, reads: u64, writes: u64)
     requires { ⌜ length (now out) ≡ 40 ⌝ }
-    ensures { λ r. ⌜ now (out .exit) ≡ answerBytes (record { refusal = refusal; value = value; swapped = swapped; reads = reads; writes = writes }) ⌝ }
+    ensures { λ r. ⌜ now (out .exit) ≡ answerBytes
+        (record { refusal = refusal; value = value; swapped = swapped; reads = reads; writes = writes }) ⌝ }
 {
     endian::write_eight(out, 0, refusal);
     endian::write_eight(out, 8, value);
@@ -66,7 +67,9 @@ pub extern "C" fn moesi_step(
     data: &mut [u8],
     answer: &mut [u8],
 ) -> u64
-    ensures { λ r. ⌜ hosted r (bytes (now (memory .exit)) (now (tags .exit)) (now (states .exit)) (now («data» .exit))) (now (answer .exit)) ≡ hostStep (record { ports = ports; sets = sets; lines = lines }) (order word operand) (bytes (now (memory .entry)) (now (tags .entry)) (now (states .entry)) (now («data» .entry))) (now (answer .entry)) ⌝ }
+    ensures { λ r. ⌜ hosted r (bytes (now (memory .exit)) (now (tags .exit)) (now (states .exit)) (now («data» .exit))) (now (answer .exit))
+        ≡ hostStep (record { ports = ports; sets = sets; lines = lines }) (order word operand)
+        (bytes (now (memory .entry)) (now (tags .entry)) (now (states .entry)) (now («data» .entry))) (now (answer .entry)) ⌝ }
 {
     let shape = Shape { ports, sets, lines };
     let out = answer.len() == 40;
@@ -100,7 +103,9 @@ pub extern "C" fn moesi_fresh(
     states: &mut [u8],
     data: &mut [u8],
 ) -> u64
-    ensures { λ r. ⌜ hosted r (bytes (now (memory .entry)) (now (tags .exit)) (now (states .exit)) (now («data» .exit))) [] ≡ hostFresh (record { ports = ports; sets = sets; lines = lines }) (bytes (now (memory .entry)) (now (tags .entry)) (now (states .entry)) (now («data» .entry))) ⌝ }
+    ensures { λ r. ⌜ hosted r (bytes (now (memory .entry)) (now (tags .exit)) (now (states .exit)) (now («data» .exit))) []
+        ≡ hostFresh (record { ports = ports; sets = sets; lines = lines })
+        (bytes (now (memory .entry)) (now (tags .entry)) (now (states .entry)) (now («data» .entry))) ⌝ }
 {
     let shape = Shape { ports, sets, lines };
     let n = refusal_by(
@@ -137,7 +142,10 @@ pub extern "C" fn moesi_audit(
     data: &[u8],
     verdict: &mut [u8],
 ) -> u64
-    ensures { λ r. ⌜ hosted r (bytes (now (memory .entry)) (now (tags .entry)) (now (states .entry)) (now («data» .entry))) (now (verdict .exit)) ≡ hostAudit (record { ports = ports; sets = sets; lines = lines }) (bytes (now (memory .entry)) (now (tags .entry)) (now (states .entry)) (now («data» .entry))) (now (verdict .entry)) ⌝ }
+    ensures { λ r. ⌜ hosted r (bytes (now (memory .entry)) (now (tags .entry)) (now (states .entry)) (now («data» .entry)))
+        (now (verdict .exit))
+        ≡ hostAudit (record { ports = ports; sets = sets; lines = lines })
+        (bytes (now (memory .entry)) (now (tags .entry)) (now (states .entry)) (now («data» .entry))) (now (verdict .entry)) ⌝ }
 {
     let shape = Shape { ports, sets, lines };
     let out = verdict.len() == 1;

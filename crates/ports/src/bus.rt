@@ -94,9 +94,12 @@ fn broadcast(
     requires { ⌜ Filled (line .shape) (now tags) (now states) (now words) ⌝ }
     requires { ⌜ Placed line ⌝ }
     requires { ⌜ AllStates (line .shape) (line .number) (now states) ⌝ }
-    requires { ⌜ others ≡ portsFrom (other (line .shape) (tablesIn (line .shape) (now tags) (now states) (now words)) i (line .number)) 0 (line .shape .ports) ⌝ }
+    requires { ⌜ others ≡ portsFrom (other (line .shape) (tablesIn (line .shape) (now tags) (now states) (now words)) i (line .number)) 0
+        (line .shape .ports) ⌝ }
     requires { ⌜ bus < 7 ⌝ }
-    ensures { λ r. ⌜ tablesIn (line .shape) (now (tags .exit)) (now (states .exit)) (now (words .exit)) ≡ answered (line .shape) (tablesIn (line .shape) (now (tags .entry)) (now (states .entry)) (now (words .entry))) i (line .number) (busAt bus) w (line .shape .ports) ⌝ }
+    ensures { λ r. ⌜ tablesIn (line .shape) (now (tags .exit)) (now (states .exit)) (now (words .exit))
+        ≡ answered (line .shape) (tablesIn (line .shape) (now (tags .entry)) (now (states .entry)) (now (words .entry))) i (line .number)
+        (busAt bus) w (line .shape .ports) ⌝ }
 {
     let c = command_of(bus);
     let sets = line.shape.sets;
@@ -134,9 +137,12 @@ pub fn ask(
     requires { ⌜ Filled (line .shape) (now tags) (now states) (now words) ⌝ }
     requires { ⌜ Placed line ⌝ }
     requires { ⌜ AllStates (line .shape) (line .number) (now states) ⌝ }
-    requires { ⌜ others ≡ portsFrom (other (line .shape) (tablesIn (line .shape) (now tags) (now states) (now words)) i (line .number)) 0 (line .shape .ports) ⌝ }
+    requires { ⌜ others ≡ portsFrom (other (line .shape) (tablesIn (line .shape) (now tags) (now states) (now words)) i (line .number)) 0
+        (line .shape .ports) ⌝ }
     requires { ⌜ bus < 7 ⌝ }
-    ensures { λ r. ⌜ tablesIn (line .shape) (now (tags .exit)) (now (states .exit)) (now (words .exit)) ≡ answered (line .shape) (tablesIn (line .shape) (now (tags .entry)) (now (states .entry)) (now (words .entry))) i (line .number) (busAt bus) w (line .shape .ports) ⌝ }
+    ensures { λ r. ⌜ tablesIn (line .shape) (now (tags .exit)) (now (states .exit)) (now (words .exit))
+        ≡ answered (line .shape) (tablesIn (line .shape) (now (tags .entry)) (now (states .entry)) (now (words .entry))) i (line .number)
+        (busAt bus) w (line .shape .ports) ⌝ }
 {
     if (others != 0) & (bus != 0) {
         broadcast(tags, states, words, line, i, others, bus, w);

@@ -60,7 +60,8 @@ pub fn put_entry(
 )
     requires { ⌜ Filled shape (now tags) (now states) (now words) ⌝ }
     requires { ⌜ k < entries shape ⌝ }
-    ensures { λ r. ⌜ tablesIn shape (now (tags .exit)) (now (states .exit)) (now (words .exit)) ≡ putAt (tablesIn shape (now (tags .entry)) (now (states .entry)) (now (words .entry))) k e ⌝ }
+    ensures { λ r. ⌜ tablesIn shape (now (tags .exit)) (now (states .exit)) (now (words .exit))
+        ≡ putAt (tablesIn shape (now (tags .entry)) (now (states .entry)) (now (words .entry))) k e ⌝ }
 {
     endian::write_four(tags, 4 * k, e.tag as u64);
     states[k] = e.byte;

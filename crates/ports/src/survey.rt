@@ -41,7 +41,8 @@ fn entry_lanes(tags: &[u8], states: &[u8], words: &[u8], line: Line, k: usize) -
     requires { ⌜ Filled (line .shape) (now tags) (now states) (now words) ⌝ }
     requires { ⌜ Placed line ⌝ }
     requires { ⌜ k < entries (line .shape) ⌝ }
-    ensures { λ r. ⌜ r ≡ lookLanes (line .place) (getD (numbers 4 (entries (line .shape)) (now (tags .entry))) k 0) (getD (now (states .entry)) k 0) ⌝ }
+    ensures { λ r. ⌜ r ≡ lookLanes (line .place) (getD (numbers 4 (entries (line .shape)) (now (tags .entry))) k 0)
+        (getD (now (states .entry)) k 0) ⌝ }
 {
     lanes_at(line.place, entry::tag_at(tags, k), states[k])
 }
@@ -50,7 +51,8 @@ fn entry_lanes(tags: &[u8], states: &[u8], words: &[u8], line: Line, k: usize) -
 pub fn survey_ports(tags: &[u8], states: &[u8], words: &[u8], line: Line) -> Masks
     requires { ⌜ Filled (line .shape) (now tags) (now states) (now words) ⌝ }
     requires { ⌜ Placed line ⌝ }
-    ensures { λ r. ⌜ r ≡ masksOf (line .shape) (tablesIn (line .shape) (now (tags .entry)) (now (states .entry)) (now (words .entry))) (line .number) ⌝ }
+    ensures { λ r. ⌜ r ≡ masksOf (line .shape) (tablesIn (line .shape) (now (tags .entry)) (now (states .entry)) (now (words .entry)))
+        (line .number) ⌝ }
 {
     let sets = line.shape.sets;
     let index = line.place.index;

@@ -101,5 +101,6 @@ bitsBelow f (suc n) = bitsBelow f n + bit (f n) * 2 ^ n
 unfoldable pub stateRow : ℕ
 unfolding stateOf
 stateRow =
-    bitsBelow (λ b. valid (orInvalid (stateOf b))) 16 + 65536 * bitsBelow (λ b. owner (orInvalid (stateOf b))) 16 + 4294967296 * bitsBelow
-    (λ b. not (isState (stateOf b))) 16
+    bitsBelow (λ b. valid (orInvalid (stateOf b))) 16
+    + 65536 * bitsBelow (λ b. owner (orInvalid (stateOf b))) 16
+    + 4294967296 * bitsBelow (λ b. not (isState (stateOf b))) 16

@@ -92,8 +92,12 @@ fn run_orders(
     requires { ⌜ Fitting shape (bytes (now memory) (now tags) (now states) (now «data»)) ⌝ }
     requires { ⌜ (8 * n ≤ length (now words)) × (8 * n ≤ length (now operands)) ⌝ }
     requires { ⌜ 5 * n ≤ length (now answers) ⌝ }
-    ensures { λ r. ⌜ modelIn shape (bytes (now (memory .exit)) (now (tags .exit)) (now (states .exit)) (now («data» .exit))) ≡ modelRun shape (ordersOf (now (words .entry)) (now (operands .entry)) 0 n) (modelIn shape (bytes (now (memory .entry)) (now (tags .entry)) (now (states .entry)) (now («data» .entry)))) ⌝ }
-    ensures { λ r. ⌜ now (answers .exit) ≡ placed (answersTo shape (ordersOf (now (words .entry)) (now (operands .entry)) 0 n) (modelIn shape (bytes (now (memory .entry)) (now (tags .entry)) (now (states .entry)) (now («data» .entry))))) (now (answers .entry)) ⌝ }
+    ensures { λ r. ⌜ modelIn shape (bytes (now (memory .exit)) (now (tags .exit)) (now (states .exit)) (now («data» .exit)))
+        ≡ modelRun shape (ordersOf (now (words .entry)) (now (operands .entry)) 0 n)
+        (modelIn shape (bytes (now (memory .entry)) (now (tags .entry)) (now (states .entry)) (now («data» .entry)))) ⌝ }
+    ensures { λ r. ⌜ now (answers .exit) ≡ placed (answersTo shape (ordersOf (now (words .entry)) (now (operands .entry)) 0 n)
+        (modelIn shape (bytes (now (memory .entry)) (now (tags .entry)) (now (states .entry)) (now («data» .entry)))))
+        (now (answers .entry)) ⌝ }
 {
     let mut k = 0;
     while k < n {
@@ -120,8 +124,11 @@ fn run_and_audit(
     requires { ⌜ Fitting shape (bytes (now memory) (now tags) (now states) (now «data»)) ⌝ }
     requires { ⌜ (8 * n ≤ length (now words)) × (8 * n ≤ length (now operands)) ⌝ }
     requires { ⌜ 5 * n ≤ length (now answers) ⌝ }
-    ensures { λ r. ⌜ r ≡ audit shape (modelRun shape (ordersOf (now (words .entry)) (now (operands .entry)) 0 n) (modelIn shape (bytes (now (memory .entry)) (now (tags .entry)) (now (states .entry)) (now («data» .entry))))) ⌝ }
-    ensures { λ r. ⌜ now (answers .exit) ≡ placed (answersTo shape (ordersOf (now (words .entry)) (now (operands .entry)) 0 n) (modelIn shape (bytes (now (memory .entry)) (now (tags .entry)) (now (states .entry)) (now («data» .entry))))) (now (answers .entry)) ⌝ }
+    ensures { λ r. ⌜ r ≡ audit shape (modelRun shape (ordersOf (now (words .entry)) (now (operands .entry)) 0 n)
+        (modelIn shape (bytes (now (memory .entry)) (now (tags .entry)) (now (states .entry)) (now («data» .entry))))) ⌝ }
+    ensures { λ r. ⌜ now (answers .exit) ≡ placed (answersTo shape (ordersOf (now (words .entry)) (now (operands .entry)) 0 n)
+        (modelIn shape (bytes (now (memory .entry)) (now (tags .entry)) (now (states .entry)) (now («data» .entry)))))
+        (now (answers .entry)) ⌝ }
 {
     run_orders(
         shape,

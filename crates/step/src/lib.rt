@@ -39,7 +39,9 @@ fn perform_call(
 ) -> Answer
     requires { ⌜ Fitting shape (bytes (now memory) (now tags) (now states) (now words)) ⌝ }
     requires { ⌜ There shape call ⌝ }
-    ensures { λ r. ⌜ result r (modelIn shape (bytes (now (memory .exit)) (now (tags .exit)) (now (states .exit)) (now (words .exit)))) ≡ perform shape (modelIn shape (bytes (now (memory .entry)) (now (tags .entry)) (now (states .entry)) (now (words .entry)))) (Decoded.Asked call) ⌝ }
+    ensures { λ r. ⌜ result r (modelIn shape (bytes (now (memory .exit)) (now (tags .exit)) (now (states .exit)) (now (words .exit))))
+        ≡ perform shape (modelIn shape (bytes (now (memory .entry)) (now (tags .entry)) (now (states .entry)) (now (words .entry))))
+        (Decoded.Asked call) ⌝ }
 {
     match call {
         Call::ByPort(acc, m, i, a) => access::access_line(
@@ -69,7 +71,9 @@ pub fn step_order(
     x: u64,
 ) -> Answer
     requires { ⌜ Fitting shape (bytes (now memory) (now tags) (now states) (now words)) ⌝ }
-    ensures { λ r. ⌜ result r (modelIn shape (bytes (now (memory .exit)) (now (tags .exit)) (now (states .exit)) (now (words .exit)))) ≡ step shape (order w x) (modelIn shape (bytes (now (memory .entry)) (now (tags .entry)) (now (states .entry)) (now (words .entry)))) ⌝ }
+    ensures { λ r. ⌜ result r (modelIn shape (bytes (now (memory .exit)) (now (tags .exit)) (now (states .exit)) (now (words .exit))))
+        ≡ step shape (order w x)
+        (modelIn shape (bytes (now (memory .entry)) (now (tags .entry)) (now (states .entry)) (now (words .entry)))) ⌝ }
 {
     let d = decode::decode_order(shape, w, x);
     let Decoded::Asked(call) = d else {
