@@ -2,7 +2,6 @@
 pub mod Classes
 pub mod Places
 pub mod Pairs
-pub mod Passing
 pub mod Tested
 pub mod Fine
 pub mod Columns

@@ -11,7 +11,8 @@ use Rattle.model.specs.Shape.{inRange, entries, refusalOf, entryOf, placeOf}
 use Rattle.model.specs.Tables.{model, lentRefusal}
 use Rattle.model.proofs.Bounds.{bounded}
 use Rattle.model.proofs.Entries.{entry-lt}
-use Rattle.model.proofs.Lent.{Lent, lent-facts, some-sets}
+use Rattle.model.proofs.Lent.{lent-facts, some-sets}
+use Rattle.find.specs.Ready.{Ready}
 
 -- The number of a port's entry, from the line's place; it is small.
 module _ (s : Shape) (a p : ℕ) {x : Place} (e : x ≡ placeOf s a) where
@@ -26,8 +27,10 @@ module _ (s : Shape) (a p : ℕ) {x : Place} (e : x ≡ placeOf s a) where
     pub entry-small : p * s .sets + x .index < 512
     entry-small = omega (arith, entry-there, bounded s h .entries-most)
 
--- What is lent without refusal 2 or 3 is in range, and has the shape's sizes.
-pub accepted : (s : Shape) (m g h w : List ℕ) {r : ℕ} → r ≡ refusalOf s (length m) (length g) (length h) (length w) → r ≡ 0
-    → Lent s (model m g h w)
+-- What is lent without refusal 2 or 3 is in range, and has the shape's sizes; so a line of it may be looked up.
+pub ready : (s : Shape) (m g h w : List ℕ) {r : ℕ} → r ≡ refusalOf s (length m) (length g) (length h) (length w) → r ≡ 0 → {a : ℕ} → a < s .lines
+    → Ready s g h a
 unfolding lentRefusal
-accepted s m g h w e z = lent-facts s (model m g h w) (sym e ∙ z)
+ready s m g h w e z q =
+    let l = lent-facts s (model m g h w) (sym e ∙ z) in
+    record { range = l .range; below = q; tags-fit = l .sizes .tags; states-fit = l .sizes .states }

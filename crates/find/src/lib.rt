@@ -3,55 +3,74 @@ use model::found::Found;
 use model::shape::Shape;
 use protocol::state;
 ghost use mathlib.Core.Path.{_≡_};
-ghost use mathlib.Core.Bool.{true, _&&_, _||_, not};
+ghost use mathlib.Core.Bool.{true};
 ghost use mathlib.Core.List.{[], _∷_};
 ghost use Prim.Native.Nat.{_<_};
 ghost use lib.ListN.{getD, length};
-ghost use lib.Dec.{ltb};
-ghost use Rattle.protocol.specs.State.{stateOf, orInvalid, isState, valid};
 ghost use Rattle.model.specs.Shape.{inRange, entries, entryOf};
 ghost use Rattle.model.specs.Below.{lowest};
-ghost use Rattle.model.specs.Tables.{model, holds, columnSound};
+ghost use Rattle.model.specs.Tables.{model, sound, holds, columnSound};
 ghost use Rattle.model.specs.Find.{holderOr, find, view};
+ghost use Rattle.find.specs.Ready.{Ready};
 
-// A byte is a state, and I or with a tag that has a home line.
-fn is_sound(b: u8, t: u32, limit: u32) -> bool
-    ensures { λ r. ⌜ r ≡ (isState (stateOf b) && (not (valid (orInvalid (stateOf b))) || ltb t limit)) ⌝ }
+// The number of port p's entry for line a.
+fn entry_number(shape: Shape, a: usize, p: usize) -> usize
+    requires { ⌜ (inRange shape ≡ true) × (a < shape .lines) ⌝ }
+    requires { ⌜ p < shape .ports ⌝ }
+    ensures { λ r. ⌜ (r ≡ entryOf shape a p) × (r < entries shape) ⌝ }
 {
-    let s = state::byte_state(b);
-    state::is_state(s) & (!state::is_valid(s) | (t < limit))
+    let at = shape.place(a);
+    p * shape.sets + at.index
+}
+
+// Port p's entry for line a is sound: its byte is a state, and it is I or has a home line below lines.
+fn sound_at(shape: Shape, tags: &[u32], states: &[u8], a: usize, p: usize) -> bool
+    requires { ⌜ Ready shape (now tags) (now states) a ⌝ }
+    requires { ⌜ p < shape .ports ⌝ }
+    ensures { λ r. ⌜ r ≡ sound shape (model [] (now (tags .entry)) (now (states .entry)) []) (entryOf shape a p) ⌝ }
+{
+    let at = shape.place(a);
+    let k = entry_number(shape, a, p);
+    let s = state::byte_state(states[k]);
+    state::is_state(s) & (!state::is_valid(s) | (tags[k] < at.limit))
+}
+
+// Port p holds line a.
+fn holds_at(shape: Shape, tags: &[u32], states: &[u8], a: usize, p: usize) -> bool
+    requires { ⌜ Ready shape (now tags) (now states) a ⌝ }
+    requires { ⌜ p < shape .ports ⌝ }
+    ensures { λ r. ⌜ r ≡ holds shape (model [] (now (tags .entry)) (now (states .entry)) []) a p ⌝ }
+{
+    let at = shape.place(a);
+    let k = entry_number(shape, a, p);
+    (tags[k] == at.tag) & state::is_valid(state::byte_state(states[k]))
 }
 
 // Every port's entry at the index of line a is sound.
 fn column_sound(shape: Shape, tags: &[u32], states: &[u8], a: usize) -> bool
-    requires { ⌜ (inRange shape ≡ true) × (a < shape .lines) ⌝ }
-    requires { ⌜ (length (now tags) ≡ entries shape) × (length (now states) ≡ entries shape) ⌝ }
+    requires { ⌜ Ready shape (now tags) (now states) a ⌝ }
     ensures { λ r. ⌜ r ≡ columnSound shape (model [] (now (tags .entry)) (now (states .entry)) []) a ⌝ }
 {
-    let at = shape.place(a);
-    let mut q = 0;
-    while q < shape.ports {
-        let k = q * shape.sets + at.index;
-        if !is_sound(states[k], tags[k], at.limit) {
+    let ports = shape.ports;
+    let mut p = 0;
+    while p < ports {
+        if !sound_at(shape, tags, states, a, p) {
             return false;
         }
-        q += 1;
+        p += 1;
     }
     true
 }
 
 // The lowest-numbered port that holds line a, or memory.
 fn first_holder(shape: Shape, tags: &[u32], states: &[u8], a: usize) -> Found
-    requires { ⌜ (inRange shape ≡ true) × (a < shape .lines) ⌝ }
-    requires { ⌜ (length (now tags) ≡ entries shape) × (length (now states) ≡ entries shape) ⌝ }
+    requires { ⌜ Ready shape (now tags) (now states) a ⌝ }
     ensures { λ r. ⌜ r ≡ holderOr (lowest (holds shape (model [] (now (tags .entry)) (now (states .entry)) []) a) (shape .ports)) ⌝ }
 {
-    let at = shape.place(a);
+    let ports = shape.ports;
     let mut p = 0;
-    while p < shape.ports {
-        let k = p * shape.sets + at.index;
-        let here = tags[k] == at.tag;
-        if here & state::is_valid(state::byte_state(states[k])) {
+    while p < ports {
+        if holds_at(shape, tags, states, a, p) {
             return Found::Holder(p);
         }
         p += 1;
@@ -83,16 +102,6 @@ pub fn find_line(
     first_holder(shape, tags, states, a)
 }
 
-// The number of port p's entry for line a.
-fn entry_number(shape: Shape, p: usize, a: usize) -> usize
-    requires { ⌜ (inRange shape ≡ true) × (a < shape .lines) ⌝ }
-    requires { ⌜ p < shape .ports ⌝ }
-    ensures { λ r. ⌜ r ≡ entryOf shape a p ⌝ }
-{
-    let at = shape.place(a);
-    p * shape.sets + at.index
-}
-
 // One word of a slice.
 fn one_word<'a>(s: &'a [u64], k: usize) -> &'a [u64]
     requires { ⌜ k < length (now s) ⌝ }
@@ -116,7 +125,7 @@ pub fn view_line<'a>(
     match found {
         Found::Refused(_) => &memory[0..0],
         Found::Holder(p) => {
-            let k = entry_number(shape, p, a);
+            let k = entry_number(shape, a, p);
             one_word(data, k)
         }
         Found::Memory => one_word(memory, a),

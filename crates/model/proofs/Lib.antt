@@ -1,5 +1,6 @@
 -- The proofs of the statements in specs/: from numbers and one line, over the tables, to one order and every list of orders.
 pub mod Below
+pub mod Loops
 pub mod Line
 pub mod Entries
 pub mod Touched

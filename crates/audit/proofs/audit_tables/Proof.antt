@@ -4,7 +4,7 @@ use mathlib.Core.Path.{_∙_}
 use native.Mathlib.Omega.{arith}
 use Rattle.ports.specs.Bytes.{bytes, modelIn}
 use Rattle.audit.specs.Entries.{indexPasses, columnsPass}
-use Rattle.audit.proofs.Passing.{Passing, passing-none, passing-fails, passing-more, passing-done}
+use Rattle.model.proofs.Loops.{Passing, passing-none, passing-fails, passing-more, passing-done}
 use Rattle.audit.proofs.Places.{columns-say}
 use Rattle.audit.proofs.audit_tables.Statement.{statement}
 use Rattle.audit.proofs.audit_tables.Tie as tie
@@ -40,14 +40,4 @@ returns-2 c =
 
 pub audit-tables-spec : {M : Type 1} → statement M
 audit-tables-spec =
-    tie.close
-    (tie.spec
-    Inv-loop
-    μ-loop
-    loop-holds
-    index-passes-requires
-    returns
-    (λ c. omega arith)
-    (λ c. omega arith)
-    loop-again
-    returns-2)
+    tie.close (tie.spec Inv-loop μ-loop loop-holds index-passes-requires returns (λ c. omega arith) (λ c. omega arith) loop-again returns-2)

@@ -3,7 +3,7 @@ use Prim.Native.Nat.{_-_, _+_, _*_}
 use native.Mathlib.Omega.{arith}
 use Rattle.ports.specs.Bytes.{tablesIn}
 use Rattle.audit.specs.Entries.{heldAt, pairPasses, belowPass}
-use Rattle.audit.proofs.Passing.{Passing, passing-none, passing-fails, passing-more, passing-done}
+use Rattle.model.proofs.Loops.{Passing, passing-none, passing-fails, passing-more, passing-done}
 use Rattle.audit.proofs.Places.{in-column}
 use Rattle.audit.proofs.below_pass.Statement.{statement}
 use Rattle.audit.proofs.below_pass.Tie as tie
@@ -40,15 +40,4 @@ returns-2 c = search passing-done
 pub below-pass-spec : {M : Type 1} → statement M
 below-pass-spec =
     tie.close
-    (tie.spec
-    Inv-loop
-    μ-loop
-    loop-holds
-    mul-k
-    add-k
-    pair-passes-requires
-    returns
-    (λ c. omega arith)
-    (λ c. omega arith)
-    loop-again
-    returns-2)
+    (tie.spec Inv-loop μ-loop loop-holds mul-k add-k pair-passes-requires returns (λ c. omega arith) (λ c. omega arith) loop-again returns-2)

@@ -66,17 +66,5 @@ returns-5 c =
 pub entry-passes-spec : {M : Type 1} → statement M
 entry-passes-spec =
     tie.close
-    (tie.spec
-    mul-k
-    add-k
-    held-at-requires
-    returns
-    home-of-requires
-    returns-2
-    (λ c κs. search needs)
-    returns-3
-    (λ c κs. search needs)
-    (λ c κs. search needs)
-    returns-4
-    owned-at-requires
-    returns-5)
+    (tie.spec mul-k add-k held-at-requires returns home-of-requires returns-2 (λ c κs. search needs) returns-3 (λ c κs. search needs)
+    (λ c κs. search needs) returns-4 owned-at-requires returns-5)

@@ -3,7 +3,7 @@ use Prim.Native.Nat.{_-_}
 use native.Mathlib.Omega.{arith}
 use Rattle.ports.specs.Bytes.{bytes, modelIn}
 use Rattle.audit.specs.Entries.{entryPasses, indexPasses}
-use Rattle.audit.proofs.Passing.{Passing, passing-none, passing-fails, passing-more, passing-done}
+use Rattle.model.proofs.Loops.{Passing, passing-none, passing-fails, passing-more, passing-done}
 use Rattle.audit.proofs.index_passes.Statement.{statement}
 use Rattle.audit.proofs.index_passes.Tie as tie
 
@@ -32,14 +32,4 @@ returns-2 c = search passing-done
 
 pub index-passes-spec : {M : Type 1} → statement M
 index-passes-spec =
-    tie.close
-    (tie.spec
-    Inv-loop
-    μ-loop
-    loop-holds
-    entry-passes-requires
-    returns
-    (λ c. omega arith)
-    (λ c. omega arith)
-    loop-again
-    returns-2)
+    tie.close (tie.spec Inv-loop μ-loop loop-holds entry-passes-requires returns (λ c. omega arith) (λ c. omega arith) loop-again returns-2)

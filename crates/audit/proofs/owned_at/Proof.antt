@@ -5,7 +5,7 @@ use native.Mathlib.Omega.{arith}
 use Rattle.endian.specs.Little.{numbers}
 use Rattle.model.specs.Shape.{entries}
 use Rattle.audit.specs.Entries.{ownsAt, ownedAt}
-use Rattle.audit.proofs.Passing.{Seeking, seeking-none, seeking-found, seeking-more, seeking-done}
+use Rattle.model.proofs.Loops.{Seeking, seeking-none, seeking-found, seeking-more, seeking-done}
 use Rattle.audit.proofs.owned_at.Statement.{statement}
 use Rattle.audit.proofs.owned_at.Tie as tie
 
@@ -40,16 +40,4 @@ returns-2 c = search seeking-done
 
 pub owned-at-spec : {M : Type 1} → statement M
 owned-at-spec =
-    tie.close
-    (tie.spec
-    Inv-loop
-    μ-loop
-    loop-holds
-    mul-k
-    add-k
-    owns-at-requires
-    returns
-    (λ c. omega arith)
-    (λ c. omega arith)
-    loop-again
-    returns-2)
+    tie.close (tie.spec Inv-loop μ-loop loop-holds mul-k add-k owns-at-requires returns (λ c. omega arith) (λ c. omega arith) loop-again returns-2)

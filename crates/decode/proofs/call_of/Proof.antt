@@ -15,9 +15,4 @@ returns-3 c = search call-device
 
 pub call-of-spec : {M : Type 1} → statement M
 call-of-spec =
-    tie.close
-    (tie.spec
-    (λ c κs. search needs)
-    returns
-    returns-2
-    returns-3)
+    tie.close (tie.spec (λ c κs. search needs) returns returns-2 returns-3)

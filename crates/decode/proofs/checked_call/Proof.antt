@@ -32,10 +32,4 @@ returns-5 c =
 
 pub checked-call-spec : {M : Type 1} → statement M
 checked-call-spec =
-    tie.close
-    (tie.spec
-    returns
-    returns-2
-    returns-3
-    returns-4
-    returns-5)
+    tie.close (tie.spec returns returns-2 returns-3 returns-4 returns-5)

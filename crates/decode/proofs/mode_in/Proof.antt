@@ -11,7 +11,4 @@ returns-2 c = rw (ne-eqb _ _ (c .if1 .left))
 
 pub mode-in-spec : {M : Type 1} → statement M
 mode-in-spec =
-    tie.close
-    (tie.spec
-    returns
-    returns-2)
+    tie.close (tie.spec returns returns-2)

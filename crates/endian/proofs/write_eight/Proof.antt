@@ -9,10 +9,4 @@ returns c = search eight-stored
 
 pub write-eight-spec : {M : Type 1} → statement M
 write-eight-spec =
-    tie.close
-    (tie.spec
-    (λ c κs. search needs)
-    (λ c. search needs)
-    (λ c κs. search needs)
-    (λ c. search needs)
-    returns)
+    tie.close (tie.spec (λ c κs. search needs) (λ c. search needs) (λ c κs. search needs) (λ c. search needs) returns)

@@ -1,7 +1,7 @@
 -- The number fits, and is `entryOf`. Assumes nothing.
 use borrow.Author.Needs.{needs}
 use native.Mathlib.Omega.{arith}
-use Rattle.find.proofs.Links.{entry-link, entry-small}
+use Rattle.find.proofs.Links.{entry-link, entry-there, entry-small}
 use Rattle.find.proofs.entry_number.Statement.{statement}
 use Rattle.find.proofs.entry_number.Tie as tie
 
@@ -16,13 +16,8 @@ add-result c =
     omega (arith, entry-small (start .args .shape) _ (start .args .p) (after-place .place .ensures) (start .pre .0 .0) (start .pre .1))
 
 returns : tie.Need-returns
-returns c = search entry-link
+returns c = (search entry-link, search entry-there)
 
 pub entry-number-spec : {M : Type 1} → statement M
 entry-number-spec =
-    tie.close
-    (tie.spec
-    (λ c κs. search needs)
-    mul-result
-    add-result
-    returns)
+    tie.close (tie.spec (λ c κs. search needs) mul-result add-result returns)

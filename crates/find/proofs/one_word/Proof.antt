@@ -9,11 +9,4 @@ returns c = one-is _ _ (c .before .pre)
 
 pub one-word-spec : {M : Type 1} → statement M
 one-word-spec =
-    tie.close
-    (tie.spec
-    (λ c. search needs)
-    (λ c. search needs)
-    (λ c. search needs)
-    (λ c. search needs)
-    (λ c. search needs)
-    returns)
+    tie.close (tie.spec (λ c. search needs) (λ c. search needs) (λ c. search needs) (λ c. search needs) (λ c. search needs) returns)

@@ -38,17 +38,5 @@ returns-3 c = search view-memory
 pub view-line-spec : {M : Type 1} → statement M
 view-line-spec =
     tie.close
-    (tie.spec
-    (λ c κs. search needs)
-    (λ c. search needs)
-    (λ c. search needs)
-    (λ c. search needs)
-    (λ c. search needs)
-    (λ c. search needs)
-    entry-number-requires
-    one-word-requires
-    (λ c. search needs)
-    one-word-requires-2
-    returns
-    returns-2
-    returns-3)
+    (tie.spec (λ c κs. search needs) (λ c. search needs) (λ c. search needs) (λ c. search needs) (λ c. search needs) (λ c. search needs)
+    entry-number-requires one-word-requires (λ c. search needs) one-word-requires-2 returns returns-2 returns-3)

@@ -29,14 +29,4 @@ returns c = search clearing-done
 
 pub clear-bytes-spec : {M : Type 1} → statement M
 clear-bytes-spec =
-    tie.close
-    (tie.spec
-    Inv-loop
-    μ-loop
-    loop-holds
-    slice-write-table
-    (λ c. omega arith)
-    (λ c. omega arith)
-    loop-again
-    same-length
-    returns)
+    tie.close (tie.spec Inv-loop μ-loop loop-holds slice-write-table (λ c. omega arith) (λ c. omega arith) loop-again same-length returns)

@@ -25,10 +25,4 @@ returns c = rw (c .before .entries .ensures)
 
 pub bytes-fit-spec : {M : Type 1} → statement M
 bytes-fit-spec =
-    tie.close
-    (tie.spec
-    (λ c κs. search needs)
-    mul-result
-    mul-result-2
-    mul-result-3
-    returns)
+    tie.close (tie.spec (λ c κs. search needs) mul-result mul-result-2 mul-result-3 returns)

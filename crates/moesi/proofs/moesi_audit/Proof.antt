@@ -31,14 +31,5 @@ returns-3 c = search audit-accepted
 pub moesi-audit-spec : {M : Type 1} → statement M
 moesi-audit-spec =
     tie.close
-    (tie.spec
-    (λ c κs. search needs)
-    slice-write-verdict
-    (λ c. search needs)
-    returns
-    returns-2
-    audit-tables-requires
-    (λ c κs. search needs)
-    slice-write-verdict-2
-    (λ c. search needs)
-    returns-3)
+    (tie.spec (λ c κs. search needs) slice-write-verdict (λ c. search needs) returns returns-2 audit-tables-requires (λ c κs. search needs)
+    slice-write-verdict-2 (λ c. search needs) returns-3)

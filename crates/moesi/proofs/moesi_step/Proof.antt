@@ -40,17 +40,5 @@ returns-3 c =
 pub moesi-step-spec : {M : Type 1} → statement M
 moesi-step-spec =
     tie.close
-    (tie.spec
-    (λ c κs. search needs)
-    put-answer-requires
-    (λ c. search needs)
-    returns
-    returns-2
-    step-order-requires
-    put-answer-requires-2
-    (λ c. search needs)
-    (λ c. search needs)
-    (λ c. search needs)
-    (λ c. search needs)
-    (λ c. search needs)
-    returns-3)
+    (tie.spec (λ c κs. search needs) put-answer-requires (λ c. search needs) returns returns-2 step-order-requires put-answer-requires-2
+    (λ c. search needs) (λ c. search needs) (λ c. search needs) (λ c. search needs) (λ c. search needs) returns-3)

@@ -26,10 +26,4 @@ returns-3 c = rw (← (c .before .is-in-range .ensures), (c .if1 .left))
 
 pub refusal-by-spec : {M : Type 1} → statement M
 refusal-by-spec =
-    tie.close
-    (tie.spec
-    (λ c κs. search needs)
-    bytes-fit-requires
-    returns
-    returns-2
-    returns-3)
+    tie.close (tie.spec (λ c κs. search needs) bytes-fit-requires returns returns-2 returns-3)

@@ -74,26 +74,7 @@ returns c =
 pub play-orders-spec : {M : Type 1} → statement M
 play-orders-spec =
     tie.close
-    (tie.spec
-    (λ c κs. search needs)
-    mul-memory-bytes
-    mul-tag-bytes
-    mul-data-bytes
-    (λ c. search needs)
-    (λ c. search needs)
-    array-borrow-prefix-memory
-    slice-aggregate-run-and-audit
-    array-borrow-prefix-tags
-    slice-aggregate-run-and-audit-2
-    array-borrow-prefix-states
-    slice-aggregate-run-and-audit-3
-    array-borrow-prefix-data
-    slice-aggregate-run-and-audit-4
-    (λ c. search needs)
-    (λ c. search needs)
-    (λ c. search needs)
-    (λ c. search needs)
-    (λ c. search needs)
-    (λ c. search needs)
-    run-and-audit-requires
-    returns)
+    (tie.spec (λ c κs. search needs) mul-memory-bytes mul-tag-bytes mul-data-bytes (λ c. search needs) (λ c. search needs) array-borrow-prefix-memory
+    slice-aggregate-run-and-audit array-borrow-prefix-tags slice-aggregate-run-and-audit-2 array-borrow-prefix-states slice-aggregate-run-and-audit-3
+    array-borrow-prefix-data slice-aggregate-run-and-audit-4 (λ c. search needs) (λ c. search needs) (λ c. search needs) (λ c. search needs)
+    (λ c. search needs) (λ c. search needs) run-and-audit-requires returns)

@@ -35,12 +35,4 @@ returns-2 c =
 
 pub play-trace-spec : {M : Type 1} → statement M
 play-trace-spec =
-    tie.close
-    (tie.spec
-    (λ c κs. search needs)
-    (λ c κs. search needs)
-    returns
-    shape-in-requires
-    orders-in-requires
-    play-orders-requires
-    returns-2)
+    tie.close (tie.spec (λ c κs. search needs) (λ c κs. search needs) returns shape-in-requires orders-in-requires play-orders-requires returns-2)

@@ -12,20 +12,7 @@ returns c = search five-stored
 pub put-answer-spec : {M : Type 1} → statement M
 put-answer-spec =
     tie.close
-    (tie.spec
-    (λ c. search needs)
-    (λ c. search needs)
-    (λ c. search needs)
-    (λ c. search needs)
-    (λ c. simp length-set (omega (arith, c .pre)))
-    (λ c. search needs)
-    (λ c. search needs)
-    (λ c. simp length-set (omega (arith, c .pre)))
-    (λ c. search needs)
-    (λ c. search needs)
-    (λ c. simp length-set (omega (arith, c .pre)))
-    (λ c. search needs)
-    (λ c. search needs)
-    (λ c. simp length-set (omega (arith, c .pre)))
-    (λ c. search needs)
-    returns)
+    (tie.spec (λ c. search needs) (λ c. search needs) (λ c. search needs) (λ c. search needs) (λ c. simp length-set (omega (arith, c .pre)))
+    (λ c. search needs) (λ c. search needs) (λ c. simp length-set (omega (arith, c .pre))) (λ c. search needs) (λ c. search needs)
+    (λ c. simp length-set (omega (arith, c .pre))) (λ c. search needs) (λ c. search needs) (λ c. simp length-set (omega (arith, c .pre)))
+    (λ c. search needs) returns)

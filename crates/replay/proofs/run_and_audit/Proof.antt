@@ -22,12 +22,5 @@ returns c =
 pub run-and-audit-spec : {M : Type 1} → statement M
 run-and-audit-spec =
     tie.close
-    (tie.spec
-    (λ c κs. search needs)
-    audit-tables-requires
-    (λ c. search needs)
-    (λ c. search needs)
-    (λ c. search needs)
-    (λ c. search needs)
-    (λ c. search needs)
-    returns)
+    (tie.spec (λ c κs. search needs) audit-tables-requires (λ c. search needs) (λ c. search needs) (λ c. search needs) (λ c. search needs)
+    (λ c. search needs) returns)

@@ -49,23 +49,6 @@ returns c = let start : tie.Start Inv-loop μ-loop = search in running-done _ _ 
 pub run-orders-spec : {M : Type 1} → statement M
 run-orders-spec =
     tie.close
-    (tie.spec
-    Inv-loop
-    μ-loop
-    loop-holds
-    (λ c. omega arith)
-    (λ c κs. omega arith)
-    (λ c. omega arith)
-    (λ c κs. omega arith)
-    step-order-requires
-    mul-put-answer
-    (λ c κs. omega arith)
-    add-k
-    (λ c. omega arith)
-    loop-again
-    (λ c. omega arith)
-    (λ c. omega arith)
-    (λ c. omega arith)
-    (λ c. omega arith)
-    same-length-5
-    returns)
+    (tie.spec Inv-loop μ-loop loop-holds (λ c. omega arith) (λ c κs. omega arith) (λ c. omega arith) (λ c κs. omega arith) step-order-requires
+    mul-put-answer (λ c κs. omega arith) add-k (λ c. omega arith) loop-again (λ c. omega arith) (λ c. omega arith) (λ c. omega arith)
+    (λ c. omega arith) same-length-5 returns)

@@ -8,7 +8,4 @@ returns c = rw (c .word-at .ensures)
 
 pub device-read-spec : {M : Type 1} → statement M
 device-read-spec =
-    tie.close
-    (tie.spec
-    (λ c κs. search needs)
-    returns)
+    tie.close (tie.spec (λ c κs. search needs) returns)

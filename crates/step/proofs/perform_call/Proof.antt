@@ -47,22 +47,6 @@ returns-3 c =
 pub perform-call-spec : {M : Type 1} → statement M
 perform-call-spec =
     tie.close
-    (tie.spec
-    (λ c. search needs)
-    access-line-requires
-    (λ c. search needs)
-    flush-line-requires
-    (λ c. search needs)
-    device-read-requires
-    (λ c. search needs)
-    (λ c. search needs)
-    (λ c. search needs)
-    (λ c. search needs)
-    returns
-    (λ c. search needs)
-    (λ c. search needs)
-    (λ c. search needs)
-    (λ c. search needs)
-    returns-2
-    (λ c. search needs)
-    returns-3)
+    (tie.spec (λ c. search needs) access-line-requires (λ c. search needs) flush-line-requires (λ c. search needs) device-read-requires
+    (λ c. search needs) (λ c. search needs) (λ c. search needs) (λ c. search needs) returns (λ c. search needs) (λ c. search needs)
+    (λ c. search needs) (λ c. search needs) returns-2 (λ c. search needs) returns-3)

@@ -34,12 +34,4 @@ returns-7 c = refl
 
 pub state-at-spec : {M : Type 1} → statement M
 state-at-spec =
-    tie.close
-    (tie.spec
-    returns
-    returns-2
-    returns-3
-    returns-4
-    returns-5
-    returns-6
-    returns-7)
+    tie.close (tie.spec returns returns-2 returns-3 returns-4 returns-5 returns-6 returns-7)

@@ -132,31 +132,7 @@ returns c =
 pub access-sound-spec : {M : Type 1} → statement M
 access-sound-spec =
     tie.close
-    (tie.spec
-    mul-at
-    add-at
-    entry-at-requires
-    shr-own
-    shl-others
-    sub-others
-    find-word-requires
-    (λ c κs. search needs)
-    (λ c κs. search needs)
-    own-rule-requires
-    ask-requires
-    put-entry-requires
-    (λ c κs. search needs)
-    (λ c κs. search needs)
-    home-of-requires
-    store-if-requires
-    store-if-requires-2
-    (λ c κs. search needs)
-    (λ c κs. search needs)
-    (λ c κs. search needs)
-    (λ c κs. search needs)
-    (λ c. search needs)
-    (λ c. search needs)
-    (λ c. search needs)
-    (λ c. search needs)
-    (λ c. search needs)
-    returns)
+    (tie.spec mul-at add-at entry-at-requires shr-own shl-others sub-others find-word-requires (λ c κs. search needs) (λ c κs. search needs)
+    own-rule-requires ask-requires put-entry-requires (λ c κs. search needs) (λ c κs. search needs) home-of-requires store-if-requires
+    store-if-requires-2 (λ c κs. search needs) (λ c κs. search needs) (λ c κs. search needs) (λ c κs. search needs) (λ c. search needs)
+    (λ c. search needs) (λ c. search needs) (λ c. search needs) (λ c. search needs) returns)

@@ -52,12 +52,4 @@ returns-3 c =
 
 pub find-word-spec : {M : Type 1} → statement M
 find-word-spec =
-    tie.close
-    (tie.spec
-    returns
-    returns-2
-    cast-p
-    mul-word-at
-    add-word-at
-    word-at-requires
-    returns-3)
+    tie.close (tie.spec returns returns-2 cast-p mul-word-at add-word-at word-at-requires returns-3)

@@ -11,9 +11,4 @@ returns-2 c = rw (c .if1 .left)
 
 pub empty-if-spec : {M : Type 1} → statement M
 empty-if-spec =
-    tie.close
-    (tie.spec
-    (λ c. search needs)
-    (λ c. search needs)
-    returns
-    returns-2)
+    tie.close (tie.spec (λ c. search needs) (λ c. search needs) returns returns-2)

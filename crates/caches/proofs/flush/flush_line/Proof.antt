@@ -83,20 +83,5 @@ returns-2 c =
 pub flush-line-spec : {M : Type 1} → statement M
 flush-line-spec =
     tie.close
-    (tie.spec
-    (λ c κs. search needs)
-    survey-ports-requires
-    (λ c κs. search needs)
-    (λ c. search needs)
-    returns
-    shr-held
-    shr-stores
-    mul-at
-    add-at
-    word-at-requires
-    empty-if-requires
-    store-if-requires
-    (λ c κs. search needs)
-    (λ c. search needs)
-    (λ c. search needs)
-    returns-2)
+    (tie.spec (λ c κs. search needs) survey-ports-requires (λ c κs. search needs) (λ c. search needs) returns shr-held shr-stores mul-at add-at
+    word-at-requires empty-if-requires store-if-requires (λ c κs. search needs) (λ c. search needs) (λ c. search needs) returns-2)

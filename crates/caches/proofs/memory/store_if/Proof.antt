@@ -19,9 +19,4 @@ returns-2 c = rw (c .if1 .left)
 
 pub store-if-spec : {M : Type 1} → statement M
 store-if-spec =
-    tie.close
-    (tie.spec
-    put-word-requires
-    (λ c. search needs)
-    returns
-    returns-2)
+    tie.close (tie.spec put-word-requires (λ c. search needs) returns returns-2)

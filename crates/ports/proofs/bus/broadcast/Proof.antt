@@ -66,21 +66,5 @@ returns c = search telling-done
 pub broadcast-spec : {M : Type 1} → statement M
 broadcast-spec =
     tie.close
-    (tie.spec
-    Inv-loop
-    μ-loop
-    (λ c κs. search needs)
-    loop-holds
-    cast-q
-    add-q
-    mul-answer-from
-    answer-from-requires
-    cast-rest
-    shr-rest
-    add-p
-    loop-less
-    loop-again
-    (λ c. search needs)
-    (λ c. search needs)
-    (λ c. search needs)
-    returns)
+    (tie.spec Inv-loop μ-loop (λ c κs. search needs) loop-holds cast-q add-q mul-answer-from answer-from-requires cast-rest shr-rest add-p loop-less
+    loop-again (λ c. search needs) (λ c. search needs) (λ c. search needs) returns)

@@ -10,8 +10,4 @@ returns c = rw (c .before .snoop-row .ensures, c .hands-word .ensures)
 
 pub command-of-spec : {M : Type 1} → statement M
 command-of-spec =
-    tie.close
-    (tie.spec
-    (λ c κs. search needs)
-    (λ c κs. search needs)
-    returns)
+    tie.close (tie.spec (λ c κs. search needs) (λ c κs. search needs) returns)

@@ -12,9 +12,4 @@ returns c =
 
 pub entry-at-spec : {M : Type 1} → statement M
 entry-at-spec =
-    tie.close
-    (tie.spec
-    (λ c κs. search needs)
-    (λ c. search needs)
-    (λ c κs. search needs)
-    returns)
+    tie.close (tie.spec (λ c κs. search needs) (λ c. search needs) (λ c κs. search needs) returns)

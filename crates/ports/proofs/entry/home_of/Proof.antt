@@ -13,8 +13,4 @@ add-result c = omega (arith, home-fits (c .args .tag) (c .args .sets) (c .args .
 
 pub home-of-spec : {M : Type 1} → statement M
 home-of-spec =
-    tie.close
-    (tie.spec
-    mul-result
-    add-result
-    (λ c. search needs))
+    tie.close (tie.spec mul-result add-result (λ c. search needs))

@@ -14,9 +14,4 @@ returns c =
 
 pub entry-lanes-spec : {M : Type 1} → statement M
 entry-lanes-spec =
-    tie.close
-    (tie.spec
-    (λ c κs. search needs)
-    (λ c. search needs)
-    lanes-at-requires
-    returns)
+    tie.close (tie.spec (λ c κs. search needs) (λ c. search needs) lanes-at-requires returns)

@@ -58,17 +58,4 @@ returns c = search surveyed-done
 
 pub survey-ports-spec : {M : Type 1} → statement M
 survey-ports-spec =
-    tie.close
-    (tie.spec
-    Inv-loop
-    μ-loop
-    loop-holds
-    sub-p
-    mul-k
-    add-k
-    entry-lanes-requires
-    mul-sum
-    add-sum
-    loop-less
-    loop-again
-    returns)
+    tie.close (tie.spec Inv-loop μ-loop loop-holds sub-p mul-k add-k entry-lanes-requires mul-sum add-sum loop-less loop-again returns)

@@ -12,10 +12,4 @@ returns c = (refl, omega arith)
 
 pub nibble-spec : {M : Type 1} → statement M
 nibble-spec =
-    tie.close
-    (tie.spec
-    (λ c. search needs)
-    (λ c. search needs)
-    (λ c. search needs)
-    (λ c. search needs)
-    returns)
+    tie.close (tie.spec (λ c. search needs) (λ c. search needs) (λ c. search needs) (λ c. search needs) returns)

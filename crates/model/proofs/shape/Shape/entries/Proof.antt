@@ -10,7 +10,4 @@ mul-result c = omega (arith, bounded (c .before .args .self) (c .before .pre) .e
 
 pub entries-spec : {M : Type 1} → statement M
 entries-spec =
-    tie.close
-    (tie.spec
-    mul-result
-    (λ c. search needs))
+    tie.close (tie.spec mul-result (λ c. search needs))

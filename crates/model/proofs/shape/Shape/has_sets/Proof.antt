@@ -39,13 +39,4 @@ returns-8 c =
 
 pub has-sets-spec : {M : Type 1} → statement M
 has-sets-spec =
-    tie.close
-    (tie.spec
-    returns
-    returns-2
-    returns-3
-    returns-4
-    returns-5
-    returns-6
-    returns-7
-    returns-8)
+    tie.close (tie.spec returns returns-2 returns-3 returns-4 returns-5 returns-6 returns-7 returns-8)

@@ -10,7 +10,4 @@ returns c = rw (c .before .entries .ensures)
 
 pub is-fitting-spec : {M : Type 1} → statement M
 is-fitting-spec =
-    tie.close
-    (tie.spec
-    (λ c κs. search needs)
-    returns)
+    tie.close (tie.spec (λ c κs. search needs) returns)

@@ -10,7 +10,4 @@ returns c = rw (c .has-sets .ensures)
 
 pub is-in-range-spec : {M : Type 1} → statement M
 is-in-range-spec =
-    tie.close
-    (tie.spec
-    (λ c κs. search needs)
-    returns)
+    tie.close (tie.spec (λ c κs. search needs) returns)

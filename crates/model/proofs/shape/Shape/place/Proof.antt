@@ -24,9 +24,4 @@ returns c =
 
 pub place-spec : {M : Type 1} → statement M
 place-spec =
-    tie.close
-    (tie.spec
-    (λ c κs. search needs)
-    cast-t4
-    cast-t5
-    returns)
+    tie.close (tie.spec (λ c κs. search needs) cast-t4 cast-t5 returns)

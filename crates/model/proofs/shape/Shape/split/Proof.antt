@@ -33,14 +33,4 @@ returns c =
 
 pub split-spec : {M : Type 1} → statement M
 split-spec =
-    tie.close
-    (tie.spec
-    (λ c κs. search needs)
-    (λ c. search needs)
-    mul-index
-    sub-index
-    sub-t8
-    add-t9
-    (λ c. search needs)
-    (λ c. search needs)
-    returns)
+    tie.close (tie.spec (λ c κs. search needs) (λ c. search needs) mul-index sub-index sub-t8 add-t9 (λ c. search needs) (λ c. search needs) returns)

@@ -1,0 +1,2 @@
+-- What finding's functions on one line ask of their callers.
+pub mod Ready
