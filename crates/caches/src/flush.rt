@@ -5,13 +5,17 @@ use model::answer::Answer;
 use model::shape::Shape;
 use ports::entry;
 use ports::line;
+use ports::line::Line;
 use ports::survey;
+use ports::survey::Masks;
 ghost use mathlib.Core.Path.{_≡_};
-ghost use mathlib.Core.Bool.{cond};
+ghost use mathlib.Core.Bool.{true, cond};
 ghost use Prim.Native.Nat.{_<_};
 ghost use lib.ListN.{set, length};
 ghost use Rattle.model.specs.Step.{result, flushed, ifSound};
-ghost use Rattle.ports.specs.Bytes.{bytes, modelIn, Fitting};
+ghost use Rattle.ports.specs.Bytes.{bytes, modelIn, tablesIn, Fitting};
+ghost use Rattle.ports.specs.Line.{Placed};
+ghost use Rattle.ports.specs.Masks.{masksOf};
 
 // An entry that may become I.
 fn empty_if(states: &mut [u8], on: bool, k: usize)
@@ -20,6 +24,41 @@ fn empty_if(states: &mut [u8], on: bool, k: usize)
 {
     if on {
         states[k] = 0;
+    }
+}
+
+// The flush by port i, from what the ports say of the line; every entry is sound.
+fn flush_sound(
+    memory: &mut [u8],
+    tags: &[u8],
+    states: &mut [u8],
+    words: &[u8],
+    line: Line,
+    i: usize,
+    said: Masks,
+) -> Answer
+    requires { ⌜ Fitting (line .shape) (bytes (now memory) (now tags) (now states) (now words)) ⌝ }
+    requires { ⌜ Placed line ⌝ }
+    requires { ⌜ i < line .shape .ports ⌝ }
+    requires { ⌜ (said ≡ masksOf (line .shape) (tablesIn (line .shape) (now tags) (now states) (now words)) (line .number)) × (said .sound ≡ true) ⌝ }
+    ensures { λ r. ⌜ result r (modelIn (line .shape) (bytes (now (memory .exit)) (now (tags .entry)) (now (states .exit)) (now (words .entry))))
+        ≡ flushed (line .shape)
+        (modelIn (line .shape) (bytes (now (memory .entry)) (now (tags .entry)) (now (states .entry)) (now (words .entry))))
+        i (line .number) ⌝ }
+{
+    let held = (said.holders >> i) % 2 == 1;
+    let stores = (said.owners >> i) % 2 == 1;
+    let sets = line.shape.sets;
+    let at = i * sets + line.place.index;
+    let w = entry::word_at(words, at);
+    empty_if(states, held, at);
+    memory::store_if(memory, line.shape.lines, stores, line.number, w);
+    Answer {
+        refusal: 0,
+        value: 0,
+        swapped: 0,
+        reads: 0,
+        writes: answer::number(stores),
     }
 }
 
@@ -44,18 +83,5 @@ pub fn flush_line(
     if !said.sound {
         return answer::refuse(8);
     }
-    let held = (said.holders >> i) % 2 == 1;
-    let stores = (said.owners >> i) % 2 == 1;
-    let sets = shape.sets;
-    let at = i * sets + line.place.index;
-    let w = entry::word_at(words, at);
-    empty_if(states, held, at);
-    memory::store_if(memory, shape.lines, stores, a, w);
-    Answer {
-        refusal: 0,
-        value: 0,
-        swapped: 0,
-        reads: 0,
-        writes: answer::number(stores),
-    }
+    flush_sound(memory, tags, states, words, line, i, said)
 }

@@ -52,12 +52,12 @@ fn column_sound(shape: Shape, tags: &[u32], states: &[u8], a: usize) -> bool
     ensures { λ r. ⌜ r ≡ columnSound shape (model [] (now (tags .entry)) (now (states .entry)) []) a ⌝ }
 {
     let ports = shape.ports;
-    let mut p = 0;
-    while p < ports {
-        if !sound_at(shape, tags, states, a, p) {
+    let mut q = 0;
+    while q < ports {
+        if !sound_at(shape, tags, states, a, q) {
             return false;
         }
-        p += 1;
+        q += 1;
     }
     true
 }

@@ -9,10 +9,10 @@ use Rattle.find.proofs.column_sound.Statement.{statement}
 use Rattle.find.proofs.column_sound.Tie as tie
 
 abbrev Inv-loop : tie.InvT-loop
-Inv-loop shape tags states a ports p₀ p = Passing (λ q. sound shape (model [] tags states []) (entryOf shape a q)) (shape .ports) p
+Inv-loop shape tags states a ports q₀ q = Passing (λ p. sound shape (model [] tags states []) (entryOf shape a p)) (shape .ports) q
 
 abbrev μ-loop : tie.MeasureT-loop
-μ-loop shape tags states a ports p₀ p = ports - p
+μ-loop shape tags states a ports q₀ q = ports - q
 
 loop-holds : tie.Need-loop-holds Inv-loop μ-loop
 loop-holds c = passing-none _ _

@@ -4,9 +4,9 @@ use mathlib.Core.Path.{_∙_}
 use lib.Count.{trailingZeros}
 use Rattle.ports.proofs.Places.{few, there, small, room}
 use Rattle.ports.proofs.Masks.{first-port, found-none, found-first}
-use Rattle.caches.proofs.Accesses.{owner-word}
-use Rattle.caches.proofs.access.find_word.Statement.{statement}
-use Rattle.caches.proofs.access.find_word.Tie as tie
+use Rattle.caches.proofs.Decisions.{owner-word}
+use Rattle.caches.proofs.decision.find_word.Statement.{statement}
+use Rattle.caches.proofs.decision.find_word.Tie as tie
 
 returns : tie.Need-returns
 returns c = rw (c .if1 .taken)

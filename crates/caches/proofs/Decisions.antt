@@ -1,11 +1,11 @@
--- An access as the code makes it is the model's. Assumes nothing.
+-- A decision as the code makes it is `decided`, and carried out it is the access of the model. Assumes nothing.
 use Prim.Native.Nat.{ℕ, zero, _+_, _*_, _<_}
 use mathlib.Core.Path.{_≡_, refl, ap, sym, _∙_}
 use mathlib.Core.Bool.{Bool, true, false, cond, _&&_, not}
 use mathlib.Core.List.{List}
 use lib.ListN.{getD}
 use lib.Dec.{eqb}
-use borrow.Author.Tests.{not-true, not-false}
+use borrow.Author.Tests.{not-true}
 use Rattle.endian.specs.Little.{numbers}
 use Rattle.words.specs.declared.access.Access.{Access}
 use Rattle.words.specs.declared.access.Effect.{Effect}
@@ -26,7 +26,7 @@ use Rattle.model.specs.declared.answer.Answer.{Answer}
 use Rattle.model.specs.Shape.{entries, entryOf}
 use Rattle.model.specs.Below.{lowest, atOr}
 use Rattle.model.specs.Tables.{Model, model, stateAt, homeAt, sound, seen, wordAt, memoryAt, holds, owns, dirty, columnSound}
-use Rattle.model.specs.Step.{result, accepted, store, shared, wordFound, fetches, evictsOwner, byteAfter, wordAfter, applied, accessRule, accessed}
+use Rattle.model.specs.Step.{result, accepted, store, shared, wordFound, fetches, evictsOwner, applied, accessRule, accessed}
 use Rattle.model.proofs.Entries.{seen-tag, seen-here, home-is}
 use Rattle.ports.specs.declared.line.Line.{Line}
 use Rattle.ports.specs.declared.entry.Entry.{Entry}
@@ -35,11 +35,14 @@ use Rattle.ports.specs.Bytes.{Bytes, bytes, modelIn, tablesIn, Filled}
 use Rattle.ports.specs.Entry.{wordIn, entryAt, putAt}
 use Rattle.ports.specs.Line.{Placed}
 use Rattle.ports.specs.Masks.{portsFrom, masksOf}
-use Rattle.ports.specs.Bus.{other, answered}
+use Rattle.ports.specs.Bus.{other, byteAnswered, wordAnswered, answered}
 use Rattle.ports.proofs.Masks.{mask-any}
 use Rattle.ports.proofs.Places.{some, index-is, tag-is, number-is, there, word-read}
-use Rattle.ports.proofs.Surveys.{masks-sound, masks-states}
-use Rattle.caches.proofs.Applied.{held-together, home-there, ruled, put-ruled}
+use Rattle.ports.proofs.Surveys.{masks-states}
+use Rattle.caches.specs.declared.decision.Decision.{Decision}
+use Rattle.caches.specs.Decision.{decided, Founded, carried}
+use Rattle.caches.proofs.Lines.{column}
+use Rattle.caches.proofs.Applied.{held-together, home-there, put-ruled}
 
 -- The word of a port that is found to own the line.
 pub owner-word : {l : Line} → Placed l → {g h d : List ℕ} → Filled (l .shape) g h d → (p : ℕ) → p < l .shape .ports → {x : ℕ}
@@ -69,42 +72,14 @@ shared-any : (s : Shape) (t : Model) (i a : ℕ) → not (eqb (portsFrom (other 
 unfolding shared
 shared-any s t i a = mask-any (other s t i a) (s .ports)
 
--- What the ports say is in the tables alone.
-same : (s : Shape) (b : Bytes) (a : ℕ) → columnSound s (tablesIn s (b .tags) (b .states) (b .words)) a ≡ columnSound s (modelIn s b) a
-unfolding columnSound sound tablesIn modelIn
-same s b a = refl
-
--- The access in the model, from the tables alone and memory's word.
-module _ (s : Shape) (b : Bytes) (i a : ℕ) (acc : Access) (m : Mode) where
-  abbrev t : Model
-  t = tablesIn s (b .tags) (b .states) (b .words)
-
-  abbrev fetched : ℕ
-  fetched = memoryAt (modelIn s b) a
-
-  abbrev found : ℕ
-  found = cond (holds s t a i) (wordAt s t a i) (atOr (wordAt s t a) fetched (lowest (owns s t a) (s .ports)))
-
-  abbrev eff : Effect
-  eff = effectAt acc found
-
-  abbrev ruling : Rule
-  ruling = rule (eff .outcome) m (shared s t i a) (dirty s t a) (seen s t a i)
-
-  abbrev evicts : Bool
-  evicts = not (holds s t a i) && owner (stateAt t (entryOf s a i))
-
-  abbrev stores : List ℕ
-  stores = store (ruling .stores) a (eff .word) (store evicts (homeAt s t (entryOf s a i)) (wordAt s t a i) (numbers 8 (s .lines) (b .memory)))
-
-  abbrev numbersOf : Answer
-  numbersOf = accepted (eff .value) (bit (eff .swapped)) (bit (not (holds s t a i) && not (dirty s t a))) (bit evicts + bit (ruling .stores))
-
-  access-link : (pos : zero < s .sets) (port : i < s .ports)
-      → accessed s (modelIn s b) i a acc m ≡ result numbersOf (let u = ruled s pos t i a port ruling (eff .word) in model stores (u .tags)
-      (u .states) (u .words))
-  unfolding accessed applied accessRule wordFound fetches evictsOwner shared dirty byteAfter wordAfter wordAt seen tablesIn modelIn
-  access-link pos port = refl
+-- A decision carried out is the access.
+carried-accessed : (s : Shape) (pos : zero < s .sets) (t : Model) (i a : ℕ) → i < s .ports → (acc : Access) (m : Mode)
+    → result (decided s t i a acc m .answer) (carried s t i a (decided s t i a acc m)) ≡ accessed s t i a acc m
+unfolding decided carried accessed applied
+carried-accessed s pos t i a port acc m =
+    let e : Effect = effectAt acc (wordFound s t i a) in
+    let r : Rule = accessRule s t i a m e in
+    rw (bus-at (r .bus), put-ruled s pos t i a port r (e .word) refl)
 
 module _ {l : Line} (v : Placed l) (g h d : List ℕ) (i : ℕ) (port : i < l .shape .ports) where
   abbrev s : Shape
@@ -137,50 +112,65 @@ module _ {l : Line} (v : Placed l) (g h d : List ℕ) (i : ℕ) (port : i < l .s
       unfolding entryAt
       owner-own = eo ∙ rw (ey, entry-own)
 
-      -- An evicted word is stored at a line that is there.
-      pub home-below : {x : Masks} → x ≡ masksOf s t′ a → x .sound ≡ true → (hit : Bool) {home : ℕ}
-          → home ≡ e .tag * s .sets + l .place .index → (not hit && o) ≡ true → home < s .lines
-      home-below ex u hit eh h =
-          rw (home-own eh) (home-there s t′ i a port (sym (masks-sound s t′ a ex) ∙ u) (sym owner-own ∙ and-r (not hit) o h))
-
-      pub access-done : (m₀ : List ℕ) (acc : Access) (m : Mode) (b′ : Bytes)
-          → {hit : Bool} → hit ≡ holds s t′ a i → {others : ℕ} → others ≡ portsFrom (other s t′ i a) 0 (s .ports) → {dirt : Bool}
-          → dirt ≡ dirty s t′ a
+      -- The decision, from what the code has found out: on whether it is a hit, the others' mask and whether the line is dirty; on memory's
+      -- word; the word found, its effect, the own state and the rule; and the victim.
+      pub decide-done : (m₀ : List ℕ) (acc : Access) (m : Mode) → {hit : Bool} → hit ≡ holds s t′ a i → {others : ℕ}
+          → others ≡ portsFrom (other s t′ i a) 0 (s .ports) → {dirt : Bool} → dirt ≡ dirty s t′ a
           → {f w : ℕ} → f ≡ memoryAt (modelIn s (bytes m₀ g h d)) a
           → w ≡ cond hit (e .word) (atOr (wordAt s t′ a) f (lowest (owns s t′ a) (s .ports)))
           → {k : Effect} → k ≡ effectAt acc w → {x : ℕ} → x ≡ cond hit (e .byte) 0
           → {r : Coded} → r ≡ coded (rule (k .outcome) m (not (eqb others 0)) dirt (orInvalid (stateOf x)))
-          → {u : Model} → u ≡ answered s t′ i a (busAt (r .bus)) (k .word) (s .ports)
-          → tablesIn s (b′ .tags) (b′ .states) (b′ .words) ≡ putAt u at (record { tag = l .place .tag; byte = r .own; word = k .word })
           → {home : ℕ} → home ≡ e .tag * s .sets + l .place .index
-          → {m₁ : List ℕ} → m₁ ≡ store (not hit && o) home (e .word) (numbers 8 (s .lines) m₀)
-          → numbers 8 (s .lines) (b′ .memory) ≡ store (r .stores) a (k .word) m₁
-          → {n₁ n₂ n₃ n₄ : ℕ} → n₁ ≡ bit (k .swapped) → n₂ ≡ bit (not hit && not dirt) → n₃ ≡ bit (not hit && o)
-          → n₄ ≡ bit (r .stores)
-          → result (record { refusal = 0; value = k .value; swapped = n₁; reads = n₂; writes = n₃ + n₄ }) (modelIn s b′) ≡ accessed s
-          (modelIn s (bytes m₀ g h d)) i a acc m
-      unfolding entryAt wordAt coded
-      access-done m₀ acc m b′ hh {others} ho hd {f} {w} hf hw {k} hk {x} hx {r} hr hg hp hm h₁ h₂ f₁ f₂ f₃ f₄ =
-          let b : Bytes = bytes m₀ g h d in
-          let E : Effect = eff s b i a acc m in
-          let R : Rule = ruling s b i a acc m in
-          let ew : w ≡ found s b i a acc m = hw ∙ rw (hh, hf, entry-own) in
-          let ek : k ≡ E = hk ∙ ap (effectAt acc) ew in
+          → {n : Answer} → n ≡ accepted (k .value) (bit (k .swapped)) (bit (not hit && not dirt)) (bit (not hit && o) + bit (r .stores))
+          → _≡_ {A = Decision} (record {
+            entry = record { tag = l .place .tag; byte = r .own; word = k .word };
+            others = others;
+            bus = r .bus;
+            evicts = not hit && o;
+            home = home;
+            evicted = e .word;
+            stores = r .stores;
+            answer = n;
+          }) (decided s (modelIn s (bytes m₀ g h d)) i a acc m)
+      unfolding entryAt coded decided wordFound fetches evictsOwner shared dirty accessRule wordAt seen tablesIn modelIn
+      decide-done m₀ acc m hh {others} ho hd {f} {w} hf hw {k} hk {x} hx {r} hr {home} hm hn =
           let es : not (eqb others 0) ≡ shared s t′ i a = rw ho (shared-any s t′ i a) in
           let ex : orInvalid (stateOf x) ≡ seen s t′ a i = rw (hx, hh, entry-own) (hit-state s t′ i a) in
-          let er : r ≡ coded R = hr ∙ rw (ek, es, hd, ex) in
-          let et : tablesIn s (b′ .tags) (b′ .states) (b′ .words) ≡ ruled s (some v) t′ i a port R (E .word) = hp ∙ rw
-          (number-is v i, tag-is v, ek, er) (put-ruled s (some v) t′ i a port R (E .word) (hg ∙ rw (ek, er, bus-at (R .bus)))) in
-          let em : numbers 8 (s .lines) (b′ .memory) ≡ stores s b i a acc m = h₂ ∙ rw (h₁, ek, er, hh, owner-own, home-own hm, entry-own) in
-          rw (held-together s b′ em et, f₁, f₂, f₃, f₄, ek, er, hh, hd, owner-own) (sym (access-link s b i a acc m (some v) port))
+          rw (hn, hr, hk, hw, hf, es, ho, hd, ex, hh, owner-own, home-own hm, tag-is v, entry-own)
 
--- Whether every entry is sound, in the model.
-module _ (s : Shape) (b : Bytes) (a : ℕ) {x : Masks} (e : x ≡ masksOf s (tablesIn s (b .tags) (b .states) (b .words)) a) where
-  column : x .sound ≡ columnSound s (modelIn s b) a
-  column = masks-sound s _ a e ∙ same s b a
+-- The calls that carry a decision out, together.
+pub carry-done : {l : Line} → Placed l → (b b′ : Bytes) (i : ℕ) (d : Decision) {u : Model}
+    → u ≡ answered (l .shape) (tablesIn (l .shape) (b .tags) (b .states) (b .words)) i (l .number) (busAt (d .bus)) (d .entry .word) (l .shape .ports)
+    → tablesIn (l .shape) (b′ .tags) (b′ .states) (b′ .words) ≡ putAt u (i * l .shape .sets + l .place .index) (d .entry)
+    → {m₁ : List ℕ} → m₁ ≡ store (d .evicts) (d .home) (d .evicted) (numbers 8 (l .shape .lines) (b .memory))
+    → numbers 8 (l .shape .lines) (b′ .memory) ≡ store (d .stores) (l .number) (d .entry .word) m₁
+    → modelIn (l .shape) b′ ≡ carried (l .shape) (modelIn (l .shape) b) i (l .number) d
+unfolding carried answered byteAnswered wordAnswered putAt wordAt seen tablesIn modelIn
+carry-done {l} v b b′ i d ea ep e₁ e₂ =
+    let s = l .shape in
+    let a = l .number in
+    let now : Model = answered s (tablesIn s (b .tags) (b .states) (b .words)) i a (busAt (d .bus)) (d .entry .word) (s .ports) in
+    let tables : tablesIn s (b′ .tags) (b′ .states) (b′ .words) ≡ putAt now (entryOf s a i) (d .entry) = ep ∙ rw (ea, number-is v i) in
+    let memory : numbers 8 (s .lines) (b′ .memory)
+    ≡ store (d .stores) a (d .entry .word) (store (d .evicts) (d .home) (d .evicted) (numbers 8 (s .lines) (b .memory))) = e₂ ∙ rw e₁ in
+    held-together s b′ memory tables
 
-  pub column-unsound : not (x .sound) ≡ true → columnSound s (modelIn s b) a ≡ false
-  column-unsound h = sym column ∙ not-true (x .sound) h
+module _ {l : Line} (v : Placed l) (b : Bytes) (i : ℕ) (port : i < l .shape .ports) (acc : Access) (m : Mode) {d : Decision}
+    (e : d ≡ decided (l .shape) (modelIn (l .shape) b) i (l .number) acc m) where
+  -- What a decision rests on, where every entry is sound.
+  pub founded : {x : Masks} → x ≡ masksOf (l .shape) (tablesIn (l .shape) (b .tags) (b .states) (b .words)) (l .number) → x .sound ≡ true
+      → Founded (l .shape) (tablesIn (l .shape) (b .tags) (b .states) (b .words)) i (l .number) d
+  unfolding decided evictsOwner seen tablesIn modelIn
+  founded ex u =
+      let t = modelIn (l .shape) b in
+      rw e (record {
+        mask = refl;
+        command = bus-below _;
+        room = λ h. home-there (l .shape) t i (l .number) port (sym (column (l .shape) b (l .number) ex) ∙ u)
+            (and-r (not (holds (l .shape) t (l .number) i)) _ h);
+      })
 
-  pub column-sound : not (x .sound) ≡ false → columnSound s (modelIn s b) a ≡ true
-  column-sound h = sym column ∙ not-false (x .sound) h
+  -- Carried out, it is the access.
+  pub access-done : (b′ : Bytes) → modelIn (l .shape) b′ ≡ carried (l .shape) (modelIn (l .shape) b) i (l .number) d
+      → result (d .answer) (modelIn (l .shape) b′) ≡ accessed (l .shape) (modelIn (l .shape) b) i (l .number) acc m
+  access-done b′ f = rw (f, e) (carried-accessed (l .shape) (some v) (modelIn (l .shape) b) i (l .number) port acc m)

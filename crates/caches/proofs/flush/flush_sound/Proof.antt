@@ -1,0 +1,53 @@
+-- The entry becomes I where the port holds the line, and an owner's word is stored. Assumes nothing.
+use borrow.Author.Needs.{needs}
+use native.Mathlib.Omega.{arith}
+use Rattle.ports.specs.Bytes.{tablesIn}
+use Rattle.ports.proofs.Places.{few, there, small, room}
+use Rattle.ports.proofs.Surveys.{masks-hit, masks-own, masks-states}
+use Rattle.caches.proofs.Decisions.{owner-word}
+use Rattle.caches.proofs.Flushes.{flush-done}
+use Rattle.caches.proofs.flush.flush_sound.Statement.{statement}
+use Rattle.caches.proofs.flush.flush_sound.Tie as tie
+
+shr-held : tie.Need-shr-held
+shr-held c = let start : tie.Start = search in omega (arith, start .pre .1 .1 .0, few (start .pre .1 .0))
+
+shr-stores : tie.Need-shr-stores
+shr-stores c = let start : tie.Start = search in omega (arith, start .pre .1 .1 .0, few (start .pre .1 .0))
+
+mul-at : tie.Need-mul-at
+mul-at c = let start : tie.Start = search in omega (arith, small (start .pre .1 .0) (start .args .i) (start .pre .1 .1 .0))
+
+add-at : tie.Need-add-at
+add-at c = let start : tie.Start = search in omega (arith, small (start .pre .1 .0) (start .args .i) (start .pre .1 .1 .0))
+
+word-at-requires : tie.Need-word-at-requires
+word-at-requires c κs =
+    let start : tie.Start = search in
+    room (start .pre .0 .filled) (there (start .pre .1 .0) (start .args .i) (start .pre .1 .1 .0)) .in-words
+
+empty-if-requires : tie.Need-empty-if-requires
+empty-if-requires c κs =
+    let start : tie.Start = search in
+    room (start .pre .0 .filled) (there (start .pre .1 .0) (start .args .i) (start .pre .1 .1 .0)) .in-states
+
+store-if-requires : tie.Need-store-if-requires
+store-if-requires c κs = let start : tie.Start = search in (start .pre .0 .memory-fits, λ _. start .pre .1 .0 .below)
+
+returns : tie.Need-returns
+unfolding tablesIn
+returns c =
+    let after-store-if : tie.After-store-if = search in let after-empty-if : tie.After-empty-if = search in
+    let after-word-at : tie.After-word-at = search in let start : tie.Start = search in
+    let v = start .pre .1 .0 in
+    let port = start .pre .1 .1 .0 in
+    let said = start .pre .1 .1 .1 in
+    flush-done v _ _ _ _ _ port (masks-states _ _ _ (said .0) (said .1)) _ _ (masks-hit _ _ _ (said .0) _ port) (masks-own _ _ _ (said .0) _ port)
+    (owner-word v (start .pre .0 .filled) _ port (after-word-at .word-at .ensures)) (after-empty-if .empty-if .ensures)
+    (after-store-if .store-if .ensures) (c .number .ensures .0)
+
+pub flush-sound-spec : {M : Type 1} → statement M
+flush-sound-spec =
+    tie.close
+    (tie.spec shr-held shr-stores mul-at add-at word-at-requires empty-if-requires store-if-requires (λ c κs. search needs) (λ c. search needs)
+    (λ c. search needs) returns)

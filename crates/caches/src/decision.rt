@@ -1,0 +1,150 @@
+// What an access comes to, decided before anything is written, and how it is carried out.
+use crate::answer;
+use crate::memory;
+use model::answer::Answer;
+use ports::bus;
+use ports::entry;
+use ports::entry::Entry;
+use ports::line::Line;
+use ports::survey::Masks;
+use protocol::rules;
+use protocol::state;
+use protocol::state::Mode;
+use words::access;
+use words::access::Access;
+use words::choose;
+ghost use mathlib.Core.Path.{_≡_};
+ghost use mathlib.Core.Bool.{true, cond};
+ghost use Prim.Native.Nat.{_<_};
+ghost use Rattle.model.specs.Below.{lowest, atOr};
+ghost use Rattle.model.specs.Tables.{wordAt, owns};
+ghost use Rattle.ports.specs.Bytes.{bytes, modelIn, tablesIn, Filled, Fitting};
+ghost use Rattle.ports.specs.Line.{Placed};
+ghost use Rattle.ports.specs.Masks.{portsFrom, masksOf};
+ghost use Rattle.ports.specs.Bus.{AllStates};
+ghost use Rattle.caches.specs.Decision.{decided, Founded, carried};
+
+// The own entry afterwards; the other holders, a bit for each port, and the number of the bus command that they hear; whether an owner's word
+// is evicted, from which line, and the word; whether the line's word is stored; and the answer.
+pub struct Decision {
+    pub entry: Entry,
+    pub others: u64,
+    pub bus: u8,
+    pub evicts: bool,
+    pub home: usize,
+    pub evicted: u64,
+    pub stores: bool,
+    pub answer: Answer,
+}
+
+// The word that a port finds: its own on a hit, else the lowest-numbered owner's, else memory's.
+fn find_word(
+    tags: &[u8],
+    states: &[u8],
+    words: &[u8],
+    line: Line,
+    hit: bool,
+    own: u64,
+    owners: u64,
+    memory: u64,
+) -> u64
+    requires { ⌜ Filled (line .shape) (now tags) (now states) (now words) ⌝ }
+    requires { ⌜ Placed line ⌝ }
+    requires { ⌜ owners ≡ portsFrom (owns (line .shape) (tablesIn (line .shape) (now tags) (now states) (now words)) (line .number)) 0
+        (line .shape .ports) ⌝ }
+    ensures { λ r. ⌜ r ≡ cond hit own (atOr
+        (wordAt (line .shape) (tablesIn (line .shape) (now (tags .entry)) (now (states .entry)) (now (words .entry))) (line .number))
+        memory
+        (lowest (owns (line .shape) (tablesIn (line .shape) (now (tags .entry)) (now (states .entry)) (now (words .entry))) (line .number))
+        (line .shape .ports))) ⌝ }
+{
+    if hit {
+        return own;
+    }
+    if owners == 0 {
+        return memory;
+    }
+    let p = u64::trailing_zeros(owners) as usize;
+    let sets = line.shape.sets;
+    entry::word_at(words, p * sets + line.place.index)
+}
+
+// What an access by port i comes to, from what the ports say of the line; every entry is sound.
+pub fn decide(
+    memory: &[u8],
+    tags: &[u8],
+    states: &[u8],
+    words: &[u8],
+    line: Line,
+    i: usize,
+    said: Masks,
+    acc: Access,
+    m: Mode,
+) -> Decision
+    requires { ⌜ Fitting (line .shape) (bytes (now memory) (now tags) (now states) (now words)) ⌝ }
+    requires { ⌜ Placed line ⌝ }
+    requires { ⌜ i < line .shape .ports ⌝ }
+    requires { ⌜ (said ≡ masksOf (line .shape) (tablesIn (line .shape) (now tags) (now states) (now words)) (line .number)) × (said .sound ≡ true) ⌝ }
+    ensures { λ r. ⌜ r ≡ decided (line .shape)
+        (modelIn (line .shape) (bytes (now (memory .entry)) (now (tags .entry)) (now (states .entry)) (now (words .entry))))
+        i (line .number) acc m ⌝ }
+{
+    let sets = line.shape.sets;
+    let index = line.place.index;
+    let e = entry::entry_at(line.shape, tags, states, words, i * sets + index);
+    let own = (said.holders >> i) % 2;
+    let hit = own == 1;
+    let others = said.holders - (own << i);
+    let dirty = said.owners != 0;
+    let fetched = entry::word_at(memory, line.number);
+    let w = find_word(tags, states, words, line, hit, e.word, said.owners, fetched);
+    let k = access::effect_at(acc, w);
+    let outcome = k.outcome;
+    let byte = choose::choose_byte(hit, e.byte, 0);
+    let r = rules::own_rule(outcome, m, others != 0, dirty, byte);
+    let evicts = !hit & state::is_owner(state::byte_state(e.byte));
+    let home = entry::home_of(e.tag, sets, index);
+    Decision {
+        entry: Entry {
+            tag: line.place.tag,
+            byte: r.own,
+            word: k.word,
+        },
+        others,
+        bus: r.bus,
+        evicts,
+        home,
+        evicted: e.word,
+        stores: r.stores,
+        answer: answer::accept(k.value, k.swapped, !hit & !dirty, evicts, r.stores),
+    }
+}
+
+// Carries it out: the other holders answer, the own entry is put, and at most two words are stored.
+pub fn carry_out(
+    memory: &mut [u8],
+    tags: &mut [u8],
+    states: &mut [u8],
+    words: &mut [u8],
+    line: Line,
+    i: usize,
+    d: Decision,
+)
+    requires { ⌜ Fitting (line .shape) (bytes (now memory) (now tags) (now states) (now words)) ⌝ }
+    requires { ⌜ Placed line ⌝ }
+    requires { ⌜ i < line .shape .ports ⌝ }
+    requires { ⌜ AllStates (line .shape) (line .number) (now states) ⌝ }
+    requires { ⌜ Founded (line .shape) (tablesIn (line .shape) (now tags) (now states) (now words)) i (line .number) d ⌝ }
+    ensures { λ r. ⌜ modelIn (line .shape) (bytes (now (memory .exit)) (now (tags .exit)) (now (states .exit)) (now (words .exit)))
+        ≡ carried (line .shape)
+        (modelIn (line .shape) (bytes (now (memory .entry)) (now (tags .entry)) (now (states .entry)) (now (words .entry))))
+        i (line .number) d ⌝ }
+{
+    let shape = line.shape;
+    let sets = shape.sets;
+    let e = d.entry;
+    bus::ask(tags, states, words, line, i, d.others, d.bus, e.word);
+    entry::put_entry(shape, tags, states, words, i * sets + line.place.index, e);
+    memory::store_if(memory, shape.lines, d.evicts, d.home, d.evicted);
+    memory::store_if(memory, shape.lines, d.stores, line.number, e.word);
+}
