@@ -7,22 +7,21 @@
 #include <stdlib.h>
 
 /* Two ports with four sets each over sixteen lines; the buffer is eight lines of them. */
-enum { PORTS = 2, SETS = 4, LINES = 16, ENTRIES = PORTS * SETS, BUFFER = 4, BUFFER_LINES = 8 };
+enum { PORTS = 2, SETS = 4, LINES = 16, BUFFER = 4, BUFFER_LINES = 8 };
 
-static uint8_t memory[8 * LINES], tags[4 * ENTRIES], states[ENTRIES], data[8 * ENTRIES];
+static uint8_t memory[MOESI_MEMORY_BYTES(LINES)], room[MOESI_TABLES_BYTES(PORTS, SETS, LINES)];
+static struct moesi_model model;
 
 /* Carries an order out. A refusal here means that the order was built wrongly. */
 static struct moesi_answer step(uint64_t word, uint64_t operand)
 {
-    uint8_t bytes[MOESI_ANSWER_BYTES];
-    uint64_t refusal = moesi_step(PORTS, SETS, LINES, word, operand, memory, sizeof memory, tags, sizeof tags, states,
-                                  sizeof states, data, sizeof data, bytes, sizeof bytes);
+    struct moesi_answer answer = moesi_model_step(&model, word, operand);
 
-    if (refusal != MOESI_ACCEPTED) {
-        fprintf(stderr, "order 0x%" PRIx64 " refused: %" PRIu64 "\n", word, refusal);
+    if (answer.refusal != MOESI_ACCEPTED) {
+        fprintf(stderr, "order 0x%" PRIx64 " refused: %" PRIu64 "\n", word, answer.refusal);
         exit(1);
     }
-    return moesi_read_answer(bytes);
+    return answer;
 }
 
 static uint64_t packet_word(uint64_t round, uint64_t line)
@@ -36,14 +35,20 @@ static void fill(uint64_t round, uint64_t mode)
         step(moesi_order_write(0, line, mode, 0xFF), packet_word(round, line));
 }
 
-/* Asks for each line of the buffer whether a device would read what was written. */
+/* Asks for each line of the buffer whether a device would read what was written: first the model, then by a device read. */
 static int device_reads_right(uint64_t round)
 {
     int wrong = 0;
 
     printf("  a device reads wrong:");
     for (uint64_t line = BUFFER; line < BUFFER + BUFFER_LINES; line++) {
-        if (step(moesi_order_device_read(line), 0).value != packet_word(round, line)) {
+        int clean = moesi_model_clean(&model, line);
+
+        if ((step(moesi_order_device_read(line), 0).value == packet_word(round, line)) != clean) {
+            printf(" (the model and the device differ at line %" PRIu64 ")\n", line);
+            exit(1);
+        }
+        if (!clean) {
             printf(" line %" PRIu64, line);
             wrong++;
         }
@@ -63,17 +68,16 @@ static uint64_t flush_buffer(void)
 
 int main(void)
 {
-    uint8_t verdict = 0;
-    int before, after, through, read_through;
+    int before, after, through, read_through, passes;
 
-    if (moesi_fresh(PORTS, SETS, LINES, memory, sizeof memory, tags, sizeof tags, states, sizeof states, data,
-                    sizeof data) != MOESI_ACCEPTED)
+    if (moesi_model_init(&model, PORTS, SETS, LINES, memory, sizeof memory, room, sizeof room) != MOESI_ACCEPTED)
         return 1;
 
     printf("port 0 fills lines %d to %d in write back\n", BUFFER, BUFFER + BUFFER_LINES - 1);
     fill(1, MOESI_WRITE_BACK);
     /* Lines 4 to 7 were evicted by lines 8 to 11, and so stored; lines 8 to 11 are only in port 0's cache. */
     before = device_reads_right(1);
+    printf("  port 0 has line %d in state %d\n", BUFFER + SETS, moesi_model_state(&model, 0, BUFFER + SETS));
     printf("port 0 flushes the buffer: ");
     printf("%" PRIu64 " words stored\n", flush_buffer());
     after = device_reads_right(1);
@@ -88,8 +92,7 @@ int main(void)
         step(moesi_order_read(1, line, MOESI_WRITE_THROUGH), 0);
     read_through = device_reads_right(3);
 
-    moesi_audit(PORTS, SETS, LINES, memory, sizeof memory, tags, sizeof tags, states, sizeof states, data, sizeof data,
-                &verdict, sizeof verdict);
-    printf("audit: %s\n", verdict == 1 ? "yes" : "no");
-    return !before && after && through && read_through && verdict == 1 ? 0 : 1;
+    passes = moesi_model_passes(&model);
+    printf("audit: %s\n", passes ? "yes" : "no");
+    return !before && after && through && read_through && passes ? 0 : 1;
 }

@@ -1,6 +1,23 @@
-/* The C interface of the proved MOESI cache model: three calls, the numbers they speak in, and small helpers. */
+/* The C interface of the proved MOESI cache model: a model as one struct, the calls under it, and their numbers. */
 
 /*
+ * Where to start
+ * ==============
+ *
+ * Write against struct moesi_model, at the end of this file: it is given main
+ * memory and one room for all the tables, takes orders, and answers. A program
+ * written so keeps its source when a later edition adds tables or numbers.
+ *
+ *     static uint8_t memory[MOESI_MEMORY_BYTES(16)], room[MOESI_TABLES_BYTES(2, 4, 16)];
+ *     struct moesi_model m;
+ *
+ *     moesi_model_init(&m, 2, 4, 16, memory, sizeof memory, room, sizeof room);
+ *     moesi_model_step(&m, moesi_order_write(1, 0, MOESI_WRITE_BACK, 0xFF), 9);
+ *
+ * moesi_fresh, moesi_step and moesi_audit are what is proved, and what the
+ * struct calls. They are for programs that lay out their own tables; their
+ * argument lists grow with the model.
+ *
  * The model
  * =========
  *
@@ -279,7 +296,7 @@ static inline uint64_t moesi_operand_upper(uint32_t half)
     return (uint64_t)half << 32;
 }
 
-/* Words in lent bytes: word number place of a slice of words (main memory, data, the answer). */
+/* Lent bytes as numbers: word number place of a slice of words (main memory, data, the answer), and a tag likewise. */
 
 static inline uint64_t moesi_get_word(const uint8_t *bytes, size_t place)
 {
@@ -287,6 +304,14 @@ static inline uint64_t moesi_get_word(const uint8_t *bytes, size_t place)
 
     return (uint64_t)at[0] | (uint64_t)at[1] << 8 | (uint64_t)at[2] << 16 | (uint64_t)at[3] << 24 |
            (uint64_t)at[4] << 32 | (uint64_t)at[5] << 40 | (uint64_t)at[6] << 48 | (uint64_t)at[7] << 56;
+}
+
+/* The tag of entry number place. */
+static inline uint32_t moesi_get_tag(const uint8_t *tags, size_t place)
+{
+    const uint8_t *at = tags + 4 * place;
+
+    return (uint32_t)at[0] | (uint32_t)at[1] << 8 | (uint32_t)at[2] << 16 | (uint32_t)at[3] << 24;
 }
 
 static inline void moesi_put_word(uint8_t *bytes, size_t place, uint64_t word)
@@ -323,6 +348,161 @@ static inline struct moesi_answer moesi_read_answer(const uint8_t *bytes)
     answer.memory_reads = moesi_get_word(bytes, 3);
     answer.memory_writes = moesi_get_word(bytes, 4);
     return answer;
+}
+
+/*
+ * A model as one value
+ * ====================
+ *
+ * The numbers of a model and where its bytes are. The bytes stay the caller's:
+ * main memory, and a room that the tables are cut from. Nothing is allocated,
+ * and no state is kept elsewhere. A copy of the struct is the same model; a
+ * second model has a memory and a room of its own.
+ *
+ * The members are for looking, in the layout that this file's first page gives.
+ * A program that names none but memory is not touched by tables that come later.
+ * A struct of zeros is no model: a step on it is refused (2), the audit says no,
+ * and no port holds a line.
+ */
+struct moesi_model {
+    uint64_t ports, sets, lines;
+    uint8_t *memory, *tags, *states, *data;
+    struct moesi_sizes sizes;
+};
+
+/*
+ * Bytes of main memory and of the room, as constants for the length of an array.
+ * The numbers are to be those of a shape.
+ */
+#define MOESI_MEMORY_BYTES(lines) ((size_t)(lines) * MOESI_MEMORY_WORD_BYTES)
+#define MOESI_TABLES_BYTES(ports, sets, lines) \
+    ((size_t)(ports) * (size_t)(sets) * (MOESI_TAG_BYTES + MOESI_STATE_BYTES + MOESI_DATA_BYTES))
+
+/* The room that the tables of a shape take together, in bytes; 0 if the numbers are no shape. */
+static inline size_t moesi_tables_bytes(uint64_t ports, uint64_t sets, uint64_t lines)
+{
+    struct moesi_sizes sizes = moesi_sizes_of(ports, sets, lines);
+
+    return sizes.tags + sizes.states + sizes.data;
+}
+
+/*
+ * A model over memory and tables as they are: bytes that were saved, or a copy
+ * of a model's memory and room to try orders on. How the tables lie in the room
+ * is this edition's own, so saved bytes go with the header and the shape that
+ * they were cut by. Tables that nobody vouches for are audited first
+ * (moesi_model_passes). Returns 0, or
+ *
+ *   2  the numbers are no shape
+ *   3  memory or the room is NULL, or hasn't exactly its length
+ *      (MOESI_MEMORY_BYTES, MOESI_TABLES_BYTES)
+ *
+ * and then nothing is written, the struct included.
+ */
+static inline uint64_t moesi_model_open(struct moesi_model *m, uint64_t ports, uint64_t sets, uint64_t lines,
+                                        uint8_t *memory, size_t memory_len, uint8_t *room, size_t room_len)
+{
+    struct moesi_sizes sizes = moesi_sizes_of(ports, sets, lines);
+
+    if (!moesi_shape_in_range(ports, sets, lines))
+        return MOESI_REFUSED_SHAPE;
+    if (memory == NULL || memory_len != sizes.memory || room == NULL ||
+        room_len != moesi_tables_bytes(ports, sets, lines))
+        return MOESI_REFUSED_LENGTH;
+    m->ports = ports;
+    m->sets = sets;
+    m->lines = lines;
+    m->memory = memory;
+    m->data = room;
+    m->tags = m->data + sizes.data;
+    m->states = m->tags + sizes.tags;
+    m->sizes = sizes;
+    return MOESI_ACCEPTED;
+}
+
+/* A fresh model: cuts the room up and clears the tables; memory stays as lent. Returns what moesi_model_open does. */
+static inline uint64_t moesi_model_init(struct moesi_model *m, uint64_t ports, uint64_t sets, uint64_t lines,
+                                        uint8_t *memory, size_t memory_len, uint8_t *room, size_t room_len)
+{
+    uint64_t refusal = moesi_model_open(m, ports, sets, lines, memory, memory_len, room, room_len);
+
+    if (refusal != MOESI_ACCEPTED)
+        return refusal;
+    return moesi_fresh(m->ports, m->sets, m->lines, m->memory, m->sizes.memory, m->tags, m->sizes.tags, m->states,
+                       m->sizes.states, m->data, m->sizes.data);
+}
+
+/* Carries out one order. A refused one has its number in the answer, and changes nothing. */
+static inline struct moesi_answer moesi_model_step(struct moesi_model *m, uint64_t word, uint64_t operand)
+{
+    uint8_t bytes[MOESI_ANSWER_BYTES];
+
+    moesi_step(m->ports, m->sets, m->lines, word, operand, m->memory, m->sizes.memory, m->tags, m->sizes.tags,
+               m->states, m->sizes.states, m->data, m->sizes.data, bytes, sizeof bytes);
+    return moesi_read_answer(bytes);
+}
+
+/* 1 if the audit says yes, else 0. */
+static inline int moesi_model_passes(const struct moesi_model *m)
+{
+    uint8_t verdict = 0;
+
+    moesi_audit(m->ports, m->sets, m->lines, m->memory, m->sizes.memory, m->tags, m->sizes.tags, m->states,
+                m->sizes.states, m->data, m->sizes.data, &verdict, MOESI_VERDICT_BYTES);
+    return verdict == 1;
+}
+
+/*
+ * Looking, without an order
+ * -------------------------
+ *
+ * These read the tables and change nothing. What they say of words holds in a
+ * model that passes the audit, as every model does that started fresh and that
+ * nobody but moesi_model_step writes.
+ */
+
+/* The number of the port's entry for the line, both of the model. */
+static inline size_t moesi_model_entry(const struct moesi_model *m, uint64_t port, uint64_t line)
+{
+    return (size_t)(port * m->sets + line % m->sets);
+}
+
+/*
+ * The state byte with which the port holds the line; MOESI_INVALID if its entry
+ * is of another line, or if there is no such port or line. In a model that fails
+ * the audit it may be a byte that is no state.
+ */
+static inline uint8_t moesi_model_state(const struct moesi_model *m, uint64_t port, uint64_t line)
+{
+    size_t entry;
+
+    if (port >= m->ports || line >= m->lines)
+        return MOESI_INVALID;
+    entry = moesi_model_entry(m, port, line);
+    return moesi_get_tag(m->tags, entry) == line / m->sets ? m->states[entry] : (uint8_t)MOESI_INVALID;
+}
+
+/*
+ * The word that a port would read of the line: the lowest-numbered holder's,
+ * else memory's. 0 if there is no such line.
+ */
+static inline uint64_t moesi_model_word(const struct moesi_model *m, uint64_t line)
+{
+    if (line >= m->lines)
+        return 0;
+    for (uint64_t port = 0; port < m->ports; port++)
+        if (moesi_model_state(m, port, line) != MOESI_INVALID)
+            return moesi_get_word(m->data, moesi_model_entry(m, port, line));
+    return moesi_get_word(m->memory, (size_t)line);
+}
+
+/*
+ * 1 if main memory has that word, so that a device reads the line right with no
+ * flush; else 0, also if there is no such line.
+ */
+static inline int moesi_model_clean(const struct moesi_model *m, uint64_t line)
+{
+    return line < m->lines && moesi_model_word(m, line) == moesi_get_word(m->memory, (size_t)line);
 }
 
 #endif

@@ -1,5 +1,5 @@
 #!/usr/bin/env python3
-"""Wrong versions of the models and of the trace program, which the tests have to catch: a C file for each, into a folder."""
+"""Wrong versions of the models, the trace program and the header's struct, which the tests have to catch, into a folder."""
 
 import pathlib
 import sys
@@ -393,6 +393,138 @@ TRACE = [
      "    while (length == 0 || fread(rest, 1, sizeof rest, stdin) > 0)"),
 ]
 
+# The header's last part, which is C and not proved: model_test.c is compiled with each of these.
+HEADER = [
+    # Where the bytes are.
+    ("the room of a shape forgets the states",
+     "    return sizes.tags + sizes.states + sizes.data;",
+     "    return sizes.tags + sizes.data;"),
+    ("the constant of the room has 12 bytes for an entry",
+     "(MOESI_TAG_BYTES + MOESI_STATE_BYTES + MOESI_DATA_BYTES))",
+     "(MOESI_TAG_BYTES + MOESI_DATA_BYTES))"),
+    ("the constant of memory takes a sum apart",
+     "((size_t)(lines) * MOESI_MEMORY_WORD_BYTES)",
+     "((size_t)lines * MOESI_MEMORY_WORD_BYTES)"),
+    ("a room for what is no shape",
+     "    struct moesi_sizes sizes = moesi_sizes_of(ports, sets, lines);\n\n    return sizes.tags + sizes.states + sizes.data;",
+     "    return MOESI_TABLES_BYTES(ports, sets, lines);"),
+    ("the tags start one byte early",
+     "    m->tags = m->data + sizes.data;",
+     "    m->tags = m->data + sizes.data - 1;"),
+    ("the states start one byte late",
+     "    m->states = m->tags + sizes.tags;",
+     "    m->states = m->tags + sizes.tags + 1;"),
+    ("the states lie in the tags",
+     "    m->states = m->tags + sizes.tags;",
+     "    m->states = m->tags;"),
+    # Refusals of open and init.
+    ("a room too large is taken",
+     "room_len != moesi_tables_bytes(ports, sets, lines)",
+     "room_len < moesi_tables_bytes(ports, sets, lines)"),
+    ("a room too small is taken",
+     "room_len != moesi_tables_bytes(ports, sets, lines)",
+     "room_len > moesi_tables_bytes(ports, sets, lines)"),
+    ("NULL is taken for a room",
+     " || room == NULL ||",
+     " ||"),
+    ("NULL is taken for memory",
+     "memory == NULL || memory_len",
+     "memory_len"),
+    ("memory is not measured",
+     " || memory_len != sizes.memory",
+     ""),
+    ("the lengths are refused before the shape",
+     "    if (!moesi_shape_in_range(ports, sets, lines))\n        return MOESI_REFUSED_SHAPE;\n"
+     "    if (memory == NULL || memory_len != sizes.memory || room == NULL ||\n"
+     "        room_len != moesi_tables_bytes(ports, sets, lines))\n        return MOESI_REFUSED_LENGTH;\n",
+     "    if (memory == NULL || memory_len != sizes.memory || room == NULL ||\n"
+     "        room_len != moesi_tables_bytes(ports, sets, lines))\n        return MOESI_REFUSED_LENGTH;\n"
+     "    if (!moesi_shape_in_range(ports, sets, lines))\n        return MOESI_REFUSED_SHAPE;\n"),
+    ("a refused shape is written into the struct",
+     "    if (!moesi_shape_in_range(ports, sets, lines))\n        return MOESI_REFUSED_SHAPE;\n    if (memory == NULL",
+     "    m->ports = ports;\n    if (!moesi_shape_in_range(ports, sets, lines))\n"
+     "        return MOESI_REFUSED_SHAPE;\n    if (memory == NULL"),
+    ("a refused length is written into the struct",
+     "        return MOESI_REFUSED_SHAPE;\n    if (memory == NULL",
+     "        return MOESI_REFUSED_SHAPE;\n    m->sizes = sizes;\n    if (memory == NULL"),
+    ("a refused init clears the room",
+     "    if (refusal != MOESI_ACCEPTED)\n        return refusal;\n    return moesi_fresh",
+     "    if (refusal != MOESI_ACCEPTED && room != NULL && room_len > 0)\n        room[0] = 0;\n"
+     "    if (refusal != MOESI_ACCEPTED)\n        return refusal;\n    return moesi_fresh"),
+    # What open and init write.
+    ("open clears the tables",
+     "    m->sizes = sizes;\n    return",
+     "    m->sizes = sizes;\n    while (room_len > 0)\n        room[--room_len] = 0;\n    return"),
+    ("init doesn't clear the tables",
+     "    return moesi_fresh(m->ports, m->sets, m->lines, m->memory, m->sizes.memory, m->tags, m->sizes.tags, m->states,\n"
+     "                       m->sizes.states, m->data, m->sizes.data);",
+     "    return MOESI_ACCEPTED;"),
+    ("init clears memory",
+     "    if (refusal != MOESI_ACCEPTED)\n        return refusal;\n    return moesi_fresh",
+     "    if (refusal != MOESI_ACCEPTED)\n        return refusal;\n    memory[0] = 0;\n    return moesi_fresh"),
+    # Step and audit.
+    ("a step drops the operand",
+     "m->lines, word, operand, m->memory",
+     "m->lines, word, 0, m->memory"),
+    ("a step tries the order twice",
+     "    uint8_t bytes[MOESI_ANSWER_BYTES];\n\n    moesi_step(",
+     "    uint8_t bytes[MOESI_ANSWER_BYTES];\n\n"
+     "    moesi_step(m->ports, m->sets, m->lines, word, operand, m->memory, m->sizes.memory, m->tags, m->sizes.tags,\n"
+     "               m->states, m->sizes.states, m->data, m->sizes.data, bytes, sizeof bytes);\n    moesi_step("),
+    ("the audit's verdict turned round",
+     "    return verdict == 1;",
+     "    return verdict != 1;"),
+    ("the audit always says yes",
+     "    return verdict == 1;",
+     "    return m->ports != 0;"),
+    # Looks.
+    ("a tag is read big-endian",
+     "(uint32_t)at[0] | (uint32_t)at[1] << 8 | (uint32_t)at[2] << 16 | (uint32_t)at[3] << 24",
+     "(uint32_t)at[3] | (uint32_t)at[2] << 8 | (uint32_t)at[1] << 16 | (uint32_t)at[0] << 24"),
+    ("a tag is read from two bytes",
+     "(uint32_t)at[0] | (uint32_t)at[1] << 8 | (uint32_t)at[2] << 16 | (uint32_t)at[3] << 24",
+     "(uint32_t)at[0] | (uint32_t)at[1] << 8"),
+    ("the state of another port",
+     "    return (size_t)(port * m->sets + line % m->sets);",
+     "    return (size_t)((m->ports - 1 - port) * m->sets + line % m->sets);"),
+    ("entries port by port within a set",
+     "    return (size_t)(port * m->sets + line % m->sets);",
+     "    return (size_t)(line % m->sets * m->ports + port);"),
+    ("an index that is the line",
+     "    return (size_t)(port * m->sets + line % m->sets);",
+     "    return (size_t)(port * m->sets + line);"),
+    ("a tag that is the line",
+     "== line / m->sets ?",
+     "== line ?"),
+    ("a state of whatever line",
+     "    return moesi_get_tag(m->tags, entry) == line / m->sets ? m->states[entry] : (uint8_t)MOESI_INVALID;",
+     "    return m->states[entry];"),
+    ("a port too many",
+     "    if (port >= m->ports || line >= m->lines)",
+     "    if (port > m->ports || line >= m->lines)"),
+    ("the state of a line that there isn't",
+     "    if (port >= m->ports || line >= m->lines)",
+     "    if (port >= m->ports)"),
+    ("the word of a line that there isn't",
+     "    if (line >= m->lines)\n        return 0;",
+     "    if (line > m->lines)\n        return 0;"),
+    ("memory's word although a port owns the line",
+     "        if (moesi_model_state(m, port, line) != MOESI_INVALID)",
+     "        if (moesi_model_state(m, port, line) == MOESI_MODIFIED)"),
+    ("the word of port 0 or memory's",
+     "for (uint64_t port = 0; port < m->ports; port++)",
+     "for (uint64_t port = 0; port < 1; port++)"),
+    ("the word of the highest-numbered holder",
+     "for (uint64_t port = 0; port < m->ports; port++)",
+     "for (uint64_t port = m->ports; port-- > 0;)"),
+    ("a line that there isn't is clean",
+     "    return line < m->lines && moesi_model_word",
+     "    return line >= m->lines || moesi_model_word"),
+    ("a line is clean unless port 0 has modified it",
+     "moesi_model_word(m, line) == moesi_get_word(m->memory, (size_t)line);",
+     "moesi_model_state(m, 0, line) != MOESI_MODIFIED;"),
+]
+
 
 def edit(name, source, old, new):
     if source.count(old) != 1:
@@ -401,16 +533,22 @@ def edit(name, source, old, new):
 
 
 def main():
-    """mutants.py walking|trace SOURCE FOLDER, or mutants.py both WALKING SECOND FOLDER; prints number and name of each."""
+    """mutants.py walking|trace|header SOURCE FOLDER, or mutants.py both WALKING SECOND FOLDER; prints number and name of each.
+
+    A header keeps its name, in a folder that has the number.
+    """
     which, *sources, folder = sys.argv[1:]
     texts = [pathlib.Path(source).read_text() for source in sources]
     folder = pathlib.Path(folder)
     folder.mkdir(parents=True, exist_ok=True)
-    for number, (name, *edits) in enumerate({"walking": WALKING, "trace": TRACE, "both": BOTH}[which], 1):
+    lists = {"walking": WALKING, "trace": TRACE, "both": BOTH, "header": HEADER}
+    for number, (name, *edits) in enumerate(lists[which], 1):
         for place, text in enumerate(texts):
             old, new = edits[2 * place:2 * place + 2]
             suffix = "" if place == 0 else "_second"
-            (folder / f"{number:03}{suffix}.c").write_text(edit(name, text, old, new))
+            file = folder / (f"{number:03}/moesi.h" if which == "header" else f"{number:03}{suffix}.c")
+            file.parent.mkdir(exist_ok=True)
+            file.write_text(edit(name, text, old, new))
         print(f"{number:03} {name}")
 
 

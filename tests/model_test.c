@@ -1,0 +1,668 @@
+/* Checks struct moesi_model of include/moesi.h: its calls against the three under it, its looks against orders. */
+
+#include "generator.h"
+#include "moesi.h"
+
+#include <stdio.h>
+#include <string.h>
+
+/* GUARD is odd, so that lent bytes lie at no alignment. */
+enum { MOST_MEMORY = 8 * 4096, MOST_ENTRIES = 8 * 64, MOST_ROOM = 13 * MOST_ENTRIES, GUARD = 61, GUARD_BYTE = 0xA5 };
+
+struct shape {
+    uint64_t ports, sets, lines;
+};
+
+static const struct shape shapes[] = {
+    {1, 1, 1},  {8, 1, 1}, {1, 64, 1},   {2, 1, 2},  {1, 1, 4096},  {3, 8, 5},
+    {2, 4, 16}, {4, 2, 7}, {5, 16, 100}, {8, 64, 9}, {7, 32, 1000}, {8, 64, 4096},
+};
+
+enum { SHAPES = sizeof shapes / sizeof shapes[0] };
+
+/* Numbers that no shape has at the place of ports, sets or lines. */
+static const uint64_t no_ports[] = {0, 9, 15, 256, UINT64_C(0x100000001), UINT64_MAX};
+static const uint64_t no_sets[] = {0, 3, 48, 65, 128, 256, UINT64_C(0x100000001), UINT64_C(1) << 63, UINT64_MAX};
+static const uint64_t no_lines[] = {0, 4097, 65536, UINT64_C(0x100000001), UINT64_C(1) << 61, UINT64_MAX};
+
+enum {
+    NO_PORTS = sizeof no_ports / sizeof no_ports[0],
+    NO_SETS = sizeof no_sets / sizeof no_sets[0],
+    NO_LINES = sizeof no_lines / sizeof no_lines[0],
+};
+
+static struct generator generator = {1};
+static int failures;
+
+/* What is being checked, for the lines that fail. */
+static struct shape now;
+
+/* After the first failure the checks soon come to an end: what is broken is not used for long. */
+static void check_at(int line, int holds, const char *what)
+{
+    if (!holds && failures++ < 20) {
+        printf("FAILED line %d, ports %llu sets %llu lines %llu: %s\n", line, (unsigned long long)now.ports,
+               (unsigned long long)now.sets, (unsigned long long)now.lines, what);
+        fflush(stdout);
+    }
+}
+
+#define CHECK(condition) check_at(__LINE__, (condition) ? 1 : 0, #condition)
+
+/* What has come up, so that no check is passed by looking at nothing. */
+static unsigned refusals_seen[9], states_seen[256], swaps_seen, clean_seen, dirty_seen, passed_seen, failed_seen;
+
+/* Lent bytes, with guard bytes before and after them. */
+struct lent {
+    size_t len;
+    uint8_t bytes[GUARD + MOST_MEMORY + GUARD];
+};
+
+static uint8_t *lend(struct lent *lent, size_t len)
+{
+    lent->len = len;
+    memset(lent->bytes, GUARD_BYTE, sizeof lent->bytes);
+    return lent->bytes + GUARD;
+}
+
+static int unharmed(const struct lent *lent)
+{
+    const uint8_t *after = lent->bytes + GUARD + lent->len;
+
+    for (size_t k = 0; k < GUARD; k++)
+        if (lent->bytes[k] != GUARD_BYTE || after[k] != GUARD_BYTE)
+            return 0;
+    return 1;
+}
+
+static int all_zeros(const uint8_t *bytes, size_t len)
+{
+    for (size_t k = 0; k < len; k++)
+        if (bytes[k] != 0)
+            return 0;
+    return 1;
+}
+
+/* Small words often, so that swaps find their compare value. */
+static uint64_t random_word(void)
+{
+    uint64_t upper = generator_below(&generator, 3), lower = generator_below(&generator, 3);
+
+    return generator_percent(&generator, 60) ? upper << 32 | lower : generator_word(&generator);
+}
+
+static void fill_with_words(uint8_t *bytes, size_t len)
+{
+    for (size_t k = 0; k < len / 8; k++)
+        moesi_put_word(bytes, k, random_word());
+}
+
+static void fill_with_bytes(uint8_t *bytes, size_t len)
+{
+    for (size_t k = 0; k < len; k++)
+        bytes[k] = (uint8_t)generator_below(&generator, 256);
+}
+
+/* One model twice: the struct over lent bytes, and memory and tables of their own for the three calls. */
+struct both {
+    struct shape shape;
+    struct lent memory_lent, room_lent;
+    struct moesi_model m;
+    size_t entries;
+    uint8_t memory[MOST_MEMORY], tags[4 * MOST_ENTRIES], states[MOST_ENTRIES], data[8 * MOST_ENTRIES];
+};
+
+static size_t memory_bytes(struct shape shape)
+{
+    return (size_t)(8 * shape.lines);
+}
+
+static size_t room_bytes(struct shape shape)
+{
+    return (size_t)(13 * shape.ports * shape.sets);
+}
+
+/* Marks the table's bytes in the room; 0 if one is outside of it or marked already. */
+static int mark(uint8_t *marks, const struct both *both, const uint8_t *table, size_t len)
+{
+    size_t from = (size_t)(table - (both->room_lent.bytes + GUARD));
+
+    if (from > both->room_lent.len || len > both->room_lent.len - from)
+        return 0;
+    for (size_t k = from; k < from + len; k++)
+        if (marks[k]++ != 0)
+            return 0;
+    return 1;
+}
+
+/* The tables lie in the room, have their sizes and share no byte. */
+static void check_cut(const struct both *both)
+{
+    uint8_t marks[MOST_ROOM] = {0};
+    const struct moesi_model *m = &both->m;
+
+    CHECK(m->ports == both->shape.ports && m->sets == both->shape.sets && m->lines == both->shape.lines);
+    CHECK(m->memory == both->memory_lent.bytes + GUARD && m->sizes.memory == memory_bytes(both->shape));
+    CHECK(m->sizes.tags == 4 * both->entries && m->sizes.states == both->entries && m->sizes.data == 8 * both->entries);
+    CHECK(mark(marks, both, m->tags, 4 * both->entries));
+    CHECK(mark(marks, both, m->states, both->entries));
+    CHECK(mark(marks, both, m->data, 8 * both->entries));
+}
+
+/* Lends memory and a room to the struct, which isn't opened yet, and gives the three calls the same memory. */
+static void lend_both(struct both *both, struct shape shape)
+{
+    now = shape;
+    both->shape = shape;
+    both->entries = (size_t)(shape.ports * shape.sets);
+    fill_with_words(lend(&both->memory_lent, memory_bytes(shape)), memory_bytes(shape));
+    fill_with_bytes(lend(&both->room_lent, room_bytes(shape)), room_bytes(shape));
+    memcpy(both->memory, both->memory_lent.bytes + GUARD, memory_bytes(shape));
+    memset(&both->m, 0x5A, sizeof both->m);
+}
+
+/* The verdict of moesi_audit on the tables laid out here. */
+static int passes(const struct both *both)
+{
+    uint8_t verdict = 7;
+
+    moesi_audit(both->shape.ports, both->shape.sets, both->shape.lines, both->memory, memory_bytes(both->shape),
+                both->tags, 4 * both->entries, both->states, both->entries, both->data, 8 * both->entries, &verdict, 1);
+    return verdict;
+}
+
+/* Memory, tables and verdict are the same both ways, and no byte beside the lent ones was written. */
+static void compare(const struct both *both)
+{
+    int verdict = passes(both);
+
+    CHECK(memcmp(both->memory_lent.bytes + GUARD, both->memory, memory_bytes(both->shape)) == 0);
+    CHECK(memcmp(both->m.tags, both->tags, 4 * both->entries) == 0);
+    CHECK(memcmp(both->m.states, both->states, both->entries) == 0);
+    CHECK(memcmp(both->m.data, both->data, 8 * both->entries) == 0);
+    CHECK(moesi_model_passes(&both->m) == verdict);
+    CHECK(unharmed(&both->memory_lent) && unharmed(&both->room_lent));
+    *(verdict ? &passed_seen : &failed_seen) += 1;
+}
+
+/* A fresh model both ways. Init is to clear the room and nothing else. */
+static void start(struct both *both, struct shape shape)
+{
+    lend_both(both, shape);
+    CHECK(moesi_model_init(&both->m, shape.ports, shape.sets, shape.lines, both->memory_lent.bytes + GUARD,
+                           both->memory_lent.len, both->room_lent.bytes + GUARD, both->room_lent.len) == 0);
+    CHECK(all_zeros(both->room_lent.bytes + GUARD, both->room_lent.len));
+    check_cut(both);
+    if (failures)
+        return;
+    CHECK(moesi_fresh(shape.ports, shape.sets, shape.lines, both->memory, memory_bytes(shape), both->tags,
+                      4 * both->entries, both->states, both->entries, both->data, 8 * both->entries) == 0);
+    compare(both);
+}
+
+/* One order both ways, through the struct m. */
+static void step(struct both *both, struct moesi_model *m, uint64_t word, uint64_t operand)
+{
+    uint8_t bytes[40];
+    struct moesi_answer answer = moesi_model_step(m, word, operand);
+    uint64_t refusal = moesi_step(both->shape.ports, both->shape.sets, both->shape.lines, word, operand, both->memory,
+                                  memory_bytes(both->shape), both->tags, 4 * both->entries, both->states, both->entries,
+                                  both->data, 8 * both->entries, bytes, sizeof bytes);
+
+    CHECK(answer.refusal == refusal && answer.refusal == moesi_get_word(bytes, 0));
+    CHECK(answer.value == moesi_get_word(bytes, 1));
+    CHECK(answer.swapped == moesi_get_word(bytes, 2));
+    CHECK(answer.memory_reads == moesi_get_word(bytes, 3));
+    CHECK(answer.memory_writes == moesi_get_word(bytes, 4));
+    compare(both);
+    refusals_seen[refusal < 9 ? refusal : 0]++;
+    swaps_seen += (unsigned)answer.swapped;
+}
+
+/* A line: few are favoured, so that ports meet and entries are fought for. */
+static uint64_t random_line(struct shape shape)
+{
+    uint64_t tag = generator_below(&generator, 4), index = generator_below(&generator, 2) % shape.sets;
+
+    if (generator_percent(&generator, 70))
+        return (tag * shape.sets + index) % shape.lines;
+    return generator_below(&generator, shape.lines);
+}
+
+static uint64_t random_mask(uint64_t kind)
+{
+    if (kind == MOESI_SWAP && generator_percent(&generator, 90))
+        return generator_percent(&generator, 50) ? MOESI_LOWER_HALF : MOESI_UPPER_HALF;
+    return generator_below(&generator, 256);
+}
+
+/* An order of any kind; now and then its kind, its port, its line or its mask is one that is refused. */
+static uint64_t random_order(struct shape shape)
+{
+    uint64_t kind = generator_below(&generator, 5), mode = generator_below(&generator, 2);
+    uint64_t port = generator_below(&generator, shape.ports), line = random_line(shape);
+    uint64_t mask = random_mask(kind), compare = generator_below(&generator, 3);
+
+    if (generator_percent(&generator, 2))
+        kind = 5 + generator_below(&generator, 4);
+    if (generator_percent(&generator, 2))
+        port = shape.ports + generator_below(&generator, 12);
+    if (generator_percent(&generator, 2))
+        line = generator_percent(&generator, 70) ? shape.lines + generator_below(&generator, 3) : UINT64_MAX;
+    return moesi_order_word(kind, mode, port, line, mask, compare);
+}
+
+static void random_step(struct both *both, struct moesi_model *m)
+{
+    uint64_t word = random_order(both->shape), operand = random_word();
+
+    step(both, m, word, operand);
+}
+
+/* Line number k of those that are looked at: the ends and lines out of range first, then every line or random ones. */
+static uint64_t looked_at(struct shape shape, unsigned k)
+{
+    const uint64_t ends[] = {
+        0,     shape.lines - 1, shape.lines,           shape.lines + 1,   shape.lines + shape.sets,
+        65535, 65536,           UINT64_C(0x100000000), UINT64_C(1) << 61, UINT64_MAX,
+    };
+
+    if (k < 10)
+        return ends[k];
+    if (shape.lines <= 16)
+        return (k - 10) % shape.lines;
+    return random_line(shape);
+}
+
+enum { LOOKED_AT = 10 + 16 };
+
+/* The state by the header's first page: an entry's home line is its tag times sets plus its index. */
+static uint8_t state_in_tables(const struct both *both, uint64_t port, uint64_t line)
+{
+    uint64_t index = line % both->shape.sets, tag = 0;
+    size_t entry = (size_t)(port * both->shape.sets + index);
+
+    if (port >= both->shape.ports || line >= both->shape.lines)
+        return MOESI_INVALID;
+    for (size_t k = 4; k-- > 0;)
+        tag = 256 * tag + both->tags[4 * entry + k];
+    return tag * both->shape.sets + index == line ? both->states[entry] : (uint8_t)MOESI_INVALID;
+}
+
+/* Every port's state of the line, and those of ports that there aren't. */
+static void check_states(const struct both *both, const struct moesi_model *m, uint64_t line)
+{
+    const uint64_t ports = both->shape.ports;
+    const uint64_t beyond[] = {ports, ports + 1, 15, 16, UINT64_C(0x100000000), UINT64_C(1) << 63, UINT64_MAX};
+
+    for (uint64_t port = 0; port < ports; port++) {
+        CHECK(moesi_model_state(m, port, line) == state_in_tables(both, port, line));
+        states_seen[state_in_tables(both, port, line)]++;
+    }
+    for (size_t k = 0; k < sizeof beyond / sizeof beyond[0]; k++)
+        CHECK(moesi_model_state(m, beyond[k], line) == MOESI_INVALID);
+}
+
+/* Opens a copy of memory and room. Both end where their arrays do, so that a sanitizer sees a look beyond. */
+static void open_copy(const struct both *both, struct moesi_model *copy)
+{
+    static uint8_t memories[MOST_MEMORY], rooms[MOST_ROOM];
+    size_t memory_len = both->memory_lent.len, room_len = both->room_lent.len;
+    uint8_t *memory = memories + sizeof memories - memory_len, *room = rooms + sizeof rooms - room_len;
+
+    memcpy(memory, both->memory_lent.bytes + GUARD, memory_len);
+    memcpy(room, both->room_lent.bytes + GUARD, room_len);
+    memset(copy, 0, sizeof *copy);
+    CHECK(moesi_model_open(copy, both->shape.ports, both->shape.sets, both->shape.lines, memory, memory_len, room,
+                           room_len) == MOESI_ACCEPTED);
+}
+
+/* What an order answers on a copy of the model. */
+static struct moesi_answer on_a_copy(const struct both *both, uint64_t word)
+{
+    struct moesi_model copy;
+
+    open_copy(both, &copy);
+    return moesi_model_step(&copy, word, 0);
+}
+
+/* The line's word is what any port reads, in either mode; the line is clean if a device reads the same. */
+static void check_word(const struct both *both, const struct moesi_model *m, uint64_t line)
+{
+    uint64_t expected = line < both->shape.lines ? MOESI_ACCEPTED : MOESI_REFUSED_LINE;
+    uint64_t word = moesi_model_word(m, line);
+    struct moesi_answer device = on_a_copy(both, moesi_order_device_read(line));
+    int clean = device.refusal == MOESI_ACCEPTED && device.value == word;
+
+    for (uint64_t port = 0; port < both->shape.ports; port++) {
+        uint64_t mode = generator_below(&generator, 2);
+        struct moesi_answer read = on_a_copy(both, moesi_order_read(port, line, mode));
+
+        CHECK(read.refusal == expected && read.value == word);
+    }
+    CHECK(device.refusal == expected);
+    CHECK(moesi_model_clean(m, line) == clean);
+    *(clean ? &clean_seen : &dirty_seen) += line < both->shape.lines;
+}
+
+/* Looks at a model that passes the audit. */
+static void look(const struct both *both, const struct moesi_model *m)
+{
+    for (unsigned k = 0; k < LOOKED_AT && !failures; k++) {
+        uint64_t line = looked_at(both->shape, k);
+
+        check_states(both, m, line);
+        check_word(both, m, line);
+    }
+    compare(both);
+}
+
+/* Looks at any tables: the lowest-numbered holder has the word, or else memory. */
+static void look_at_damage(const struct both *both, const struct moesi_model *m)
+{
+    for (unsigned k = 0; k < LOOKED_AT && !failures; k++) {
+        uint64_t line = looked_at(both->shape, k), stored, word;
+
+        check_states(both, m, line);
+        if (line >= both->shape.lines) {
+            CHECK(moesi_model_word(m, line) == 0 && moesi_model_clean(m, line) == 0);
+            continue;
+        }
+        word = stored = moesi_get_word(both->memory, (size_t)line);
+        for (uint64_t port = both->shape.ports; port-- > 0;)
+            if (state_in_tables(both, port, line) != MOESI_INVALID)
+                word = moesi_get_word(both->data, (size_t)(port * both->shape.sets + line % both->shape.sets));
+        CHECK(moesi_model_word(m, line) == word);
+        CHECK(moesi_model_clean(m, line) == (word == stored));
+    }
+    compare(both);
+}
+
+static struct both first, second;
+
+/* Many orders at each shape, and looks between them: every model passes the audit, and every state comes up. */
+static void check_orders(void)
+{
+    static const uint8_t state_bytes[] = {0, 1, 2, 9, 10, 11, 12};
+
+    for (unsigned s = 0; s < SHAPES && !failures; s++) {
+        start(&first, shapes[s]);
+        for (unsigned k = 0; k < 20000 && !failures; k++) {
+            if (k % 200 == 0)
+                look(&first, &first.m);
+            random_step(&first, &first.m);
+        }
+    }
+    for (size_t k = 0; k < sizeof state_bytes && !failures; k++)
+        CHECK(states_seen[state_bytes[k]] > 100);
+    CHECK(failed_seen == 0);
+}
+
+/* Tables that no order leaves: random bytes, or tags of lines that there are or nearly are, with any states. */
+static void damage(struct both *both)
+{
+    static const uint8_t state_bytes[] = {0, 1, 2, 9, 10, 11, 12, 3, 255};
+    uint64_t tags = both->shape.lines / both->shape.sets + 2;
+    unsigned any_byte = generator_below(&generator, 3) * 5;
+
+    fill_with_bytes(both->tags, 4 * both->entries);
+    fill_with_bytes(both->states, both->entries);
+    fill_with_words(both->data, 8 * both->entries);
+    if (generator_percent(&generator, 20))
+        return;
+    for (size_t entry = 0; entry < both->entries; entry++) {
+        uint32_t tag = generator_below(&generator, generator_percent(&generator, 50) && tags > 4 ? 4 : tags);
+
+        if (generator_percent(&generator, any_byte))
+            tag |= (uint32_t)1 << (8 + generator_below(&generator, 24));
+        for (size_t k = 0; k < 4; k++)
+            both->tags[4 * entry + k] = (uint8_t)(tag >> 8 * k & 255);
+        if (!generator_percent(&generator, any_byte))
+            both->states[entry] = state_bytes[generator_below(&generator, any_byte ? 9 : 7)];
+    }
+}
+
+/* Open leaves all bytes as they are. Then the tables are damaged, and orders are the same both ways. */
+static void check_damage(void)
+{
+    for (unsigned run = 0; run < 150 * SHAPES && !failures; run++) {
+        struct shape shape = shapes[run % SHAPES];
+        struct moesi_model copy;
+
+        lend_both(&first, shape);
+        second = first;
+        CHECK(moesi_model_open(&first.m, shape.ports, shape.sets, shape.lines, first.memory_lent.bytes + GUARD,
+                               first.memory_lent.len, first.room_lent.bytes + GUARD, first.room_lent.len) == 0);
+        CHECK(memcmp(&first.memory_lent, &second.memory_lent, sizeof first.memory_lent) == 0);
+        CHECK(memcmp(&first.room_lent, &second.room_lent, sizeof first.room_lent) == 0);
+        check_cut(&first);
+        if (failures)
+            return;
+        damage(&first);
+        memcpy(first.m.tags, first.tags, 4 * first.entries);
+        memcpy(first.m.states, first.states, first.entries);
+        memcpy(first.m.data, first.data, 8 * first.entries);
+        look_at_damage(&first, &first.m);
+        for (unsigned k = 0; k < 30 && !failures; k++)
+            random_step(&first, &first.m);
+        open_copy(&first, &copy);
+        look_at_damage(&first, &copy);
+    }
+}
+
+/* A copy of the struct is the same model; a second model, over memory and a room of its own, is another one. */
+static void check_copies(void)
+{
+    for (unsigned s = 0; s < SHAPES && !failures; s++) {
+        struct moesi_model twin;
+
+        start(&second, shapes[(s + s % 2) % SHAPES]);
+        start(&first, shapes[s]);
+        if (failures)
+            return;
+        twin = first.m;
+        for (unsigned k = 0; k < 200 && !failures; k++) {
+            struct moesi_model *m = generator_percent(&generator, 50) ? &first.m : &twin;
+
+            if (generator_percent(&generator, 50)) {
+                random_step(&first, m);
+                compare(&second);
+            } else {
+                random_step(&second, &second.m);
+                compare(&first);
+            }
+            CHECK(moesi_model_passes(&twin) == 1);
+        }
+        look(&first, &twin);
+        look(&second, &second.m);
+    }
+}
+
+/* Memory and room as a call to open or init is given them. */
+struct offer {
+    uint8_t *memory;
+    size_t memory_len;
+    uint8_t *room;
+    size_t room_len;
+};
+
+/* Open and init answer expected and write nothing. Init is tried only if open refuses: it might write through NULL. */
+static void check_refused(uint64_t expected, struct shape shape, struct offer offer)
+{
+    for (int init = 0; init < 2 && !failures; init++) {
+        uint64_t refusal = (init ? moesi_model_init : moesi_model_open)(
+            &first.m, shape.ports, shape.sets, shape.lines, offer.memory, offer.memory_len, offer.room, offer.room_len);
+
+        now = shape;
+        CHECK(refusal == expected);
+        CHECK(memcmp(&first.m, &second.m, sizeof first.m) == 0);
+        CHECK(memcmp(&first.memory_lent, &second.memory_lent, sizeof first.memory_lent) == 0);
+        CHECK(memcmp(&first.room_lent, &second.room_lent, sizeof first.room_lent) == 0);
+    }
+}
+
+/* Each way to offer memory and a room wrongly. */
+static void check_offers(uint64_t expected, struct shape shape, struct offer right)
+{
+    static const size_t beside[] = {1, 2, 8, 13};
+    const struct offer wrong[] = {
+        {NULL, right.memory_len, right.room, right.room_len},
+        {right.memory, right.memory_len, NULL, right.room_len},
+        {NULL, right.memory_len, NULL, right.room_len},
+        {NULL, 0, right.room, right.room_len},
+        {right.memory, right.memory_len, NULL, 0},
+        {NULL, 0, NULL, 0},
+        {right.memory, 0, right.room, right.room_len},
+        {right.memory, right.memory_len, right.room, 0},
+        {right.memory, 0, right.room, 0},
+        {right.memory, right.memory_len + 1, right.room, right.room_len - 1},
+        {right.memory, right.memory_len - 1, right.room, right.room_len + 1},
+        {NULL, right.memory_len + 1, NULL, right.room_len + 1},
+    };
+
+    for (size_t k = 0; k < sizeof wrong / sizeof wrong[0]; k++)
+        check_refused(expected, shape, wrong[k]);
+    for (size_t k = 0; k < sizeof beside / sizeof beside[0]; k++)
+        for (int sign = 0; sign < 2; sign++) {
+            struct offer memory = right, room = right;
+
+            /* No length is made smaller than nothing. */
+            if (sign && beside[k] >= (right.memory_len < right.room_len ? right.memory_len : right.room_len))
+                continue;
+            memory.memory_len = sign ? right.memory_len - beside[k] : right.memory_len + beside[k];
+            room.room_len = sign ? right.room_len - beside[k] : right.room_len + beside[k];
+            check_refused(expected, shape, memory);
+            check_refused(expected, shape, room);
+        }
+}
+
+/* The shape with one, two or three numbers that no shape has; bits of which say which. */
+static struct shape no_shape(struct shape shape, unsigned which, unsigned k)
+{
+    if (which & 1)
+        shape.ports = no_ports[k % NO_PORTS];
+    if (which & 2)
+        shape.sets = no_sets[k % NO_SETS];
+    if (which & 4)
+        shape.lines = no_lines[k % NO_LINES];
+    return shape;
+}
+
+/* A wrong shape is answered before a wrong offer, whatever the offer. Nothing is written by any of them. */
+static void check_refusals(void)
+{
+    static const struct shape some[] = {{1, 1, 1}, {2, 4, 16}, {8, 64, 4095}};
+
+    for (unsigned s = 0; s < 3 && !failures; s++) {
+        struct offer right, nothing = {NULL, 0, NULL, 0};
+
+        lend_both(&first, some[s]);
+        memcpy(&second, &first, sizeof first);
+        right.memory = first.memory_lent.bytes + GUARD;
+        right.memory_len = first.memory_lent.len;
+        right.room = first.room_lent.bytes + GUARD;
+        right.room_len = first.room_lent.len;
+        check_offers(MOESI_REFUSED_LENGTH, some[s], right);
+        for (unsigned which = 1; which < 8 && !failures; which++)
+            for (unsigned k = 0; k < NO_SETS; k++) {
+                check_refused(MOESI_REFUSED_SHAPE, no_shape(some[s], which, k), right);
+                check_refused(MOESI_REFUSED_SHAPE, no_shape(some[s], which, k), nothing);
+            }
+        check_offers(MOESI_REFUSED_SHAPE, no_shape(some[s], 1, 1), right);
+        check_offers(MOESI_REFUSED_SHAPE, no_shape(some[s], 2, 1), right);
+        check_offers(MOESI_REFUSED_SHAPE, no_shape(some[s], 4, 1), right);
+    }
+}
+
+/* The room's size as a number and as a constant, for every ports and sets. */
+static void check_sizes(void)
+{
+    static uint8_t memory[MOESI_MEMORY_BYTES(4096)], room[MOESI_TABLES_BYTES(8, 64, 4096)];
+    static uint8_t small_memory[MOESI_MEMORY_BYTES(8 + 8)], small_room[MOESI_TABLES_BYTES(1 + 1, 2 + 2, 8 + 8)];
+    static const uint64_t some_lines[] = {1, 2, 63, 64, 4095, 4096};
+
+    CHECK(sizeof memory == 32768 && sizeof room == 6656);
+    CHECK(sizeof small_memory == 128 && sizeof small_room == 104);
+    for (uint64_t ports = 1; ports <= 8; ports++)
+        for (uint64_t sets = 1; sets <= 64; sets *= 2)
+            for (size_t k = 0; k < sizeof some_lines / sizeof some_lines[0]; k++) {
+                uint64_t lines = some_lines[k];
+                struct shape shape = {ports, sets, lines};
+
+                now = shape;
+                CHECK(moesi_tables_bytes(ports, sets, lines) == room_bytes(shape));
+                CHECK(MOESI_TABLES_BYTES(ports, sets, lines) == room_bytes(shape));
+                CHECK(MOESI_MEMORY_BYTES(lines) == memory_bytes(shape));
+            }
+    for (unsigned which = 1; which < 8; which++)
+        for (unsigned k = 0; k < NO_SETS; k++)
+            for (unsigned s = 0; s < SHAPES; s++) {
+                now = no_shape(shapes[s], which, k);
+                CHECK(moesi_tables_bytes(now.ports, now.sets, now.lines) == 0);
+            }
+}
+
+static void check_tags(void)
+{
+    static const uint8_t bytes[] = {
+        0x77, 0x01, 0x23, 0x45, 0x67, 0xFE, 0xDC, 0xBA, 0x98, 0xFF, 0xFF, 0xFF, 0xFF, 0, 0, 0, 0x80,
+    };
+
+    /* From byte 1 on, so that the tags lie at no alignment. */
+    CHECK(moesi_get_tag(bytes + 1, 0) == 0x67452301u);
+    CHECK(moesi_get_tag(bytes + 1, 1) == 0x98BADCFEu);
+    CHECK(moesi_get_tag(bytes + 1, 2) == 0xFFFFFFFFu);
+    CHECK(moesi_get_tag(bytes + 1, 3) == 0x80000000u);
+}
+
+/* A struct of zeros is no model. */
+static void check_zeros(void)
+{
+    static struct moesi_model zeros;
+    static const uint64_t numbers[] = {0, 1, 7, 4095, UINT64_C(1) << 32, UINT64_MAX};
+    const uint64_t words[] = {
+        moesi_order_read(0, 0, MOESI_WRITE_BACK),
+        moesi_order_write(0, 0, MOESI_WRITE_THROUGH, 0xFF),
+        moesi_order_device_read(0),
+        7,
+        UINT64_MAX,
+    };
+
+    for (size_t k = 0; k < sizeof words / sizeof words[0]; k++) {
+        struct moesi_answer answer = moesi_model_step(&zeros, words[k], 5);
+
+        CHECK(answer.refusal == 2 && answer.value == 0 && answer.swapped == 0);
+        CHECK(answer.memory_reads == 0 && answer.memory_writes == 0);
+    }
+    CHECK(moesi_model_passes(&zeros) == 0);
+    for (size_t k = 0; k < sizeof numbers / sizeof numbers[0]; k++) {
+        for (size_t n = 0; n < sizeof numbers / sizeof numbers[0]; n++)
+            CHECK(moesi_model_state(&zeros, numbers[k], numbers[n]) == MOESI_INVALID);
+        CHECK(moesi_model_word(&zeros, numbers[k]) == 0);
+        CHECK(moesi_model_clean(&zeros, numbers[k]) == 0);
+    }
+}
+
+/* Every refusal that a step through a struct can give, swaps that succeed, clean lines and others have come up. */
+static void check_seen(void)
+{
+    CHECK(refusals_seen[0] > 1000);
+    for (int refusal = 4; refusal <= 8; refusal++)
+        CHECK(refusals_seen[refusal] > 50);
+    CHECK(swaps_seen > 100 && clean_seen > 100 && dirty_seen > 100);
+    CHECK(passed_seen > 1000 && failed_seen > 1000);
+}
+
+int main(void)
+{
+    static void (*const checks[])(void) = {
+        check_sizes, check_tags, check_refusals, check_orders, check_copies, check_damage, check_seen, check_zeros,
+    };
+
+    /* A group that fails is the last one: the others use what it found broken. */
+    for (size_t k = 0; k < sizeof checks / sizeof checks[0] && !failures; k++) {
+        memset(&now, 0, sizeof now);
+        checks[k]();
+    }
+    return failures == 0 ? 0 : 1;
+}
