@@ -9,10 +9,10 @@
  * written so keeps its source when a later edition adds tables or numbers.
  *
  *     static uint8_t memory[MOESI_MEMORY_BYTES(16)], room[MOESI_TABLES_BYTES(2, 4, 16)];
- *     struct moesi_model m;
+ *     static struct moesi_model m;
  *
- *     moesi_model_init(&m, 2, 4, 16, memory, sizeof memory, room, sizeof room);
- *     moesi_model_step(&m, moesi_order_write(1, 0, MOESI_WRITE_BACK, 0xFF), 9);
+ *     if (moesi_model_init(&m, 2, 4, 16, memory, sizeof memory, room, sizeof room) == MOESI_ACCEPTED)
+ *         moesi_model_step(&m, moesi_order_write(1, 0, MOESI_WRITE_BACK, 0xFF), 9);
  *
  * moesi_fresh, moesi_step and moesi_audit are what is proved, and what the
  * struct calls. They are for programs that lay out their own tables; their
@@ -40,8 +40,8 @@
  * contents of its slices. Two models are two groups of slices. Calls on separate
  * slices may run at the same time.
  *
- * What a call may not do
- * ----------------------
+ * What a caller may not do
+ * ------------------------
  *
  *   - Lend slices that overlap: no two slices of a call share a byte.
  *   - Lend a slice with a false length: all its bytes must be the caller's to
@@ -78,17 +78,17 @@
  *
  * A device reads main memory behind the caches, so a word that a port wrote in
  * write back may not be there yet. For a model that starts fresh, and whose
- * memory and tables nobody but moesi_step writes, this is proved: a device read of a line is right (it gives
- * the word that a port would read) with no flush, unless the line was written
- * in write back, by a write or by a swap that succeeded, since its last
- * write-through access by any port (a read, a write or a swap, successful or
- * not) or, without such an access, since the start. The rule looks at the
- * accesses alone: a flush does not count as a write-through access. What it does
- * is store the word if the port that flushes owns the line (state O or M); so
- * once every holder that owns the line has flushed it, memory has the word,
- * until the next write, or swap that succeeds, in write back. A flush by a port that doesn't hold the
- * line changes nothing: to be sure, flush the line from every port, or read it
- * once in write through from any port.
+ * memory and tables nobody but moesi_step writes, this is proved: a device read
+ * of a line is right (it gives the word that a port would read) with no flush,
+ * unless the line was written in write back, by a write or by a swap that
+ * succeeded, since its last write-through access by any port (a read, a write or
+ * a swap, successful or not) or, without such an access, since the start. The
+ * rule looks at the accesses alone: a flush does not count as a write-through
+ * access. What it does is store the word if the port that flushes owns the line
+ * (state O or M); so once every holder that owns the line has flushed it, memory
+ * has the word, until the next write, or swap that succeeds, in write back. A
+ * flush by a port that doesn't hold the line changes nothing: to be sure, flush
+ * the line from every port, or read it once in write through from any port.
  */
 
 #ifndef MOESI_H
@@ -355,9 +355,10 @@ static inline struct moesi_answer moesi_read_answer(const uint8_t *bytes)
  * ====================
  *
  * The numbers of a model and where its bytes are. The bytes stay the caller's:
- * main memory, and a room that the tables are cut from. Nothing is allocated,
- * and no state is kept elsewhere. A copy of the struct is the same model; a
- * second model has a memory and a room of its own.
+ * main memory, and a room that the tables are cut from. The struct keeps where
+ * they are, so they stay in place as long as the model is used. Nothing is
+ * allocated, and no state is kept elsewhere. A copy of the struct is the same
+ * model; a second model has a memory and a room of its own.
  *
  * The members are for looking, in the layout that this file's first page gives.
  * A program that names none but memory is not touched by tables that come later.
@@ -390,14 +391,16 @@ static inline size_t moesi_tables_bytes(uint64_t ports, uint64_t sets, uint64_t 
  * A model over memory and tables as they are: bytes that were saved, or a copy
  * of a model's memory and room to try orders on. How the tables lie in the room
  * is this edition's own, so saved bytes go with the header and the shape that
- * they were cut by. Tables that nobody vouches for are audited first
- * (moesi_model_passes). Returns 0, or
+ * they were cut by; who has the tables apart uses the three calls. Tables that
+ * nobody vouches for are audited first (moesi_model_passes). Memory and the room
+ * share no byte. Returns 0, or
  *
  *   2  the numbers are no shape
  *   3  memory or the room is NULL, or hasn't exactly its length
  *      (MOESI_MEMORY_BYTES, MOESI_TABLES_BYTES)
  *
- * and then nothing is written, the struct included.
+ * and then nothing is written, the struct included: it is a model only if it was
+ * one before.
  */
 static inline uint64_t moesi_model_open(struct moesi_model *m, uint64_t ports, uint64_t sets, uint64_t lines,
                                         uint8_t *memory, size_t memory_len, uint8_t *room, size_t room_len)
@@ -461,7 +464,7 @@ static inline int moesi_model_passes(const struct moesi_model *m)
  * nobody but moesi_model_step writes.
  */
 
-/* The number of the port's entry for the line, both of the model. */
+/* For the looks below: the number of the port's entry for the line, where the model has both. */
 static inline size_t moesi_model_entry(const struct moesi_model *m, uint64_t port, uint64_t line)
 {
     return (size_t)(port * m->sets + line % m->sets);
@@ -498,7 +501,8 @@ static inline uint64_t moesi_model_word(const struct moesi_model *m, uint64_t li
 
 /*
  * 1 if main memory has that word, so that a device reads the line right with no
- * flush; else 0, also if there is no such line.
+ * flush (a port may still own the line, with the same word); else 0, also if
+ * there is no such line.
  */
 static inline int moesi_model_clean(const struct moesi_model *m, uint64_t line)
 {

@@ -1,6 +1,6 @@
 /*
- * The example driver as it stood at the base. The gate compiles and runs it unchanged: what was written then keeps
- * its source and its output.
+ * The example driver as it stood when struct moesi_model came. The gate compiles and runs it unchanged: what was
+ * written against the struct keeps its source, and this driver, which no later rule touches, its output too.
  */
 
 #include "moesi.h"

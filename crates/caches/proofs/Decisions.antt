@@ -25,7 +25,7 @@ use Rattle.model.specs.declared.shape.Shape.{Shape}
 use Rattle.model.specs.declared.answer.Answer.{Answer}
 use Rattle.model.specs.Shape.{entries, entryOf}
 use Rattle.model.specs.Below.{lowest, atOr}
-use Rattle.model.specs.Tables.{Model, model, stateAt, homeAt, sound, seen, wordAt, memoryAt, holds, owns, dirty, columnSound}
+use Rattle.model.specs.Tables.{Model, stateAt, homeAt, sound, seen, wordAt, memoryAt, holds, owns, dirty}
 use Rattle.model.specs.Step.{result, accepted, store, shared, wordFound, fetches, evictsOwner, applied, accessRule, accessed}
 use Rattle.model.proofs.Entries.{seen-tag, seen-here, home-is}
 use Rattle.ports.specs.declared.line.Line.{Line}
@@ -49,11 +49,6 @@ pub owner-word : {l : Line} → Placed l → {g h d : List ℕ} → Filled (l .s
     → x ≡ wordIn d (p * l .shape .sets + l .place .index) → x ≡ wordAt (l .shape) (tablesIn (l .shape) g h d) (l .number) p
 unfolding wordAt tablesIn
 owner-word {l} v {d = d} f p q e = word-read f (there v p q) e ∙ ap (λ (k : ℕ). getD (numbers 8 (entries (l .shape)) d) k 0) (number-is v p)
-
--- A rule's bus command has a number below 7.
-pub bus-fits : (r : Rule) {c : Coded} → c ≡ coded r → c .bus < 7
-unfolding coded
-bus-fits r e = rw e (bus-below (r .bus))
 
 pub chosen-state : (h : Bool) (b : ℕ) {x : ℕ} → x ≡ cond h b 0 → isState (stateOf b) ≡ true → isState (stateOf x) ≡ true
 unfolding stateOf
@@ -132,7 +127,7 @@ module _ {l : Line} (v : Placed l) (g h d : List ℕ) (i : ℕ) (port : i < l .s
             stores = r .stores;
             answer = n;
           }) (decided s (modelIn s (bytes m₀ g h d)) i a acc m)
-      unfolding entryAt coded decided wordFound fetches evictsOwner shared dirty accessRule wordAt seen tablesIn modelIn
+      unfolding entryAt coded decided accessed wordFound fetches evictsOwner shared dirty accessRule wordAt seen tablesIn modelIn
       decide-done m₀ acc m hh {others} ho hd {f} {w} hf hw {k} hk {x} hx {r} hr {home} hm hn =
           let es : not (eqb others 0) ≡ shared s t′ i a = rw ho (shared-any s t′ i a) in
           let ex : orInvalid (stateOf x) ≡ seen s t′ a i = rw (hx, hh, entry-own) (hit-state s t′ i a) in
@@ -166,7 +161,7 @@ module _ {l : Line} (v : Placed l) (b : Bytes) (i : ℕ) (port : i < l .shape .p
       rw e (record {
         mask = refl;
         command = bus-below _;
-        room = λ h. home-there (l .shape) t i (l .number) port (sym (column (l .shape) b (l .number) ex) ∙ u)
+        home = λ h. home-there (l .shape) t i (l .number) port (sym (column (l .shape) b (l .number) ex) ∙ u)
             (and-r (not (holds (l .shape) t (l .number) i)) _ h);
       })
 

@@ -5,6 +5,7 @@ use mathlib.Core.Bool.{Bool, false, cond, not}
 use mathlib.Core.List.{List}
 use lib.ListN.{set}
 use lib.Seq.{set-getD}
+use native.Mathlib.Nat.{zero-add}
 use borrow.Author.Tests.{not-true}
 use Rattle.endian.specs.Little.{numbers}
 use Rattle.words.specs.Bools.{bit}
@@ -15,6 +16,7 @@ use Rattle.protocol.specs.Rules.{flushRule}
 use Rattle.protocol.proofs.States.{owner-valid}
 use Rattle.protocol.proofs.Kept.{flush-own, flush-bus}
 use Rattle.model.specs.declared.shape.Shape.{Shape}
+use Rattle.model.specs.declared.answer.Answer.{Answer}
 use Rattle.model.specs.Shape.{entryOf}
 use Rattle.model.specs.Tables.{Model, model, seen, wordAt, holds, owns}
 use Rattle.model.specs.Step.{result, accepted, store, evictsOwner, byteAfter, wordAfter, applied, flushed}
@@ -86,15 +88,14 @@ module _ {l : Line} (v : Placed l) (m g h d : List ℕ) (i : ℕ) (port : i < l 
   pub flush-done : (m′ h′ : List ℕ) {held stores : Bool} → held ≡ holds s t′ a i → stores ≡ owns s t′ a i → {w : ℕ}
       → w ≡ wordAt s t′ a i
       → h′ ≡ cond held (set h (i * l .shape .sets + l .place .index) 0) h
-      → numbers 8 (s .lines) m′ ≡ store stores a w (numbers 8 (s .lines) m) → {n : ℕ} → n ≡ bit stores
-      → result (record { refusal = 0; value = 0; swapped = 0; reads = 0; writes = n }) (modelIn s (bytes m′ g h′ d)) ≡ flushed s
-      (modelIn s (bytes m g h d)) i a
+      → numbers 8 (s .lines) m′ ≡ store stores a w (numbers 8 (s .lines) m) → {n : Answer}
+      → n ≡ accepted 0 0 0 (0 + bit stores) → result n (modelIn s (bytes m′ g h′ d)) ≡ flushed s (modelIn s (bytes m g h d)) i a
   flush-done m′ h′ {held} {stores} eh es {w} ew ehs em en =
       by-bool (holds s t′ a i)
       (λ y. let eh′ : h′ ≡ set h (i * l .shape .sets + l .place .index) 0 = ehs ∙ rw (eh, y) in
       let em′ : numbers 8 (s .lines) m′ ≡ store (owns s t′ a i) a (wordAt s t′ a i) (numbers 8 (s .lines) m) = em ∙ rw (es, ew) in
-      rw (en, es, held-together s (bytes m′ g h′ d) em′ (emptied-bytes h′ y eh′)) (sym (flush-held s (bytes m g h d) i a (some v) port y)))
+      rw (en, zero-add, es, held-together s (bytes m′ g h′ d) em′ (emptied-bytes h′ y eh′)) (sym (flush-held s (bytes m g h d) i a (some v) port y)))
       (λ y. let o : owns s t′ a i ≡ false = not-true _ (contra (owns s t′ a i) (owner-valid (seen s t′ a i)) y) in
       let eh′ : h′ ≡ h = ehs ∙ rw (eh, not-true (holds s t′ a i) y) in
       let em′ : numbers 8 (s .lines) m′ ≡ numbers 8 (s .lines) m = em ∙ rw (es, o) in
-      rw (en, es, o, same-model s m g h d m′ h′ em′ eh′) (sym (flush-away s (bytes m g h d) i a y)))
+      rw (en, zero-add, es, o, same-model s m g h d m′ h′ em′ eh′) (sym (flush-away s (bytes m g h d) i a y)))

@@ -1,9 +1,8 @@
 -- A decision: what an access comes to, from memory and the tables as they are; and the model after it is carried out.
-use Prim.Native.Nat.{ℕ, _+_, _<_}
+use Prim.Native.Nat.{ℕ, _<_}
 use mathlib.Core.Path.{_≡_}
 use mathlib.Core.Bool.{true}
 use Rattle.words.specs.declared.access.Access.{Access}
-use Rattle.words.specs.Bools.{bit}
 use Rattle.words.specs.Access.{effectAt}
 use Rattle.protocol.specs.declared.state.Mode.{Mode}
 use Rattle.protocol.specs.State.{code}
@@ -11,13 +10,13 @@ use Rattle.protocol.specs.Coded.{busNumber, busAt}
 use Rattle.model.specs.declared.shape.Shape.{Shape}
 use Rattle.model.specs.Shape.{tagOf, entryOf}
 use Rattle.model.specs.Tables.{Model, model, wordAt}
-use Rattle.model.specs.Step.{accepted, store, wordFound, fetches, victim, evictsOwner, accessRule}
+use Rattle.model.specs.Step.{store, wordFound, victim, evictsOwner, accessRule, accessed}
 use Rattle.ports.specs.Entry.{putAt}
 use Rattle.ports.specs.Masks.{portsFrom}
 use Rattle.ports.specs.Bus.{other, answered}
 use Rattle.caches.specs.declared.decision.Decision.{Decision}
 
--- What an access by port i of line a comes to: the own entry afterwards, the ports that hear the bus command, what is evicted, whether the
+-- What an access by port i of line a comes to: the own entry afterwards, the other holders and their command, what is evicted, whether the
 -- line's word is stored, and the answer.
 unfoldable pub decided : Shape → Model → ℕ → ℕ → Access → Mode → Decision
 decided s t i a acc m =
@@ -31,14 +30,14 @@ decided s t i a acc m =
       home = victim s t i a;
       evicted = wordAt s t a i;
       stores = r .stores;
-      answer = accepted (e .value) (bit (e .swapped)) (bit (fetches s t i a)) (bit (evictsOwner s t i a) + bit (r .stores));
+      answer = accessed s t i a acc m .answer;
     }
 
 -- What carrying it out rests on: the mask has the other holders, the command is one, and an evicted word has a line to go to.
 pub record Founded (s : Shape) (t : Model) (i a : ℕ) (d : Decision) : Type 0 where
   pub mask : d .others ≡ portsFrom (other s t i a) 0 (s .ports)
   pub command : d .bus < 7
-  pub room : d .evicts ≡ true → d .home < s .lines
+  pub home : d .evicts ≡ true → d .home < s .lines
 
 -- The model afterwards: the other holders have answered, the own entry is put, and at most two words are stored, the evicted one first.
 unfoldable pub carried : Shape → Model → ℕ → ℕ → Decision → Model

@@ -17,13 +17,14 @@ pub fn refuse(n: u64) -> Answer
     }
 }
 
-pub fn number(b: bool) -> u64
+// 1 for true, and 0.
+fn number(b: bool) -> u64
     ensures { λ r. ⌜ (r ≡ bit b) × (r ≤ 1) ⌝ }
 {
     if b { 1 } else { 0 }
 }
 
-// The numbers of an access: its value, whether it swapped, whether it fetched memory's word, and its two stores.
+// The numbers of an accepted order: its value, whether it swapped, whether it fetched memory's word, and its two stores.
 pub fn accept(value: u64, swapped: bool, fetches: bool, evicts: bool, stores: bool) -> Answer
     ensures { λ r. ⌜ r ≡ accepted value (bit swapped) (bit fetches) (bit evicts + bit stores) ⌝ }
 {

@@ -6,6 +6,7 @@ use ports::bus;
 use ports::entry;
 use ports::entry::Entry;
 use ports::line::Line;
+use ports::mask;
 use ports::survey::Masks;
 use protocol::rules;
 use protocol::state;
@@ -24,8 +25,8 @@ ghost use Rattle.ports.specs.Masks.{portsFrom, masksOf};
 ghost use Rattle.ports.specs.Bus.{AllStates};
 ghost use Rattle.caches.specs.Decision.{decided, Founded, carried};
 
-// The own entry afterwards; the other holders, a bit for each port, and the number of the bus command that they hear; whether an owner's word
-// is evicted, from which line, and the word; whether the line's word is stored; and the answer.
+// The own entry afterwards; the other holders, a bit for each port, and the number of the bus command that they hear; whether the own word
+// before is evicted from an owner, the home line that it then goes to, and that word; whether the line's word is stored; and the answer.
 pub struct Decision {
     pub entry: Entry,
     pub others: u64,
@@ -64,7 +65,7 @@ fn find_word(
     if owners == 0 {
         return memory;
     }
-    let p = u64::trailing_zeros(owners) as usize;
+    let p = mask::lowest_port(owners);
     let sets = line.shape.sets;
     entry::word_at(words, p * sets + line.place.index)
 }
@@ -96,19 +97,20 @@ pub fn decide(
     let hit = own == 1;
     let others = said.holders - (own << i);
     let dirty = said.owners != 0;
-    let fetched = entry::word_at(memory, line.number);
-    let w = find_word(tags, states, words, line, hit, e.word, said.owners, fetched);
-    let k = access::effect_at(acc, w);
-    let outcome = k.outcome;
+    let stored = entry::word_at(memory, line.number);
+    let found = find_word(tags, states, words, line, hit, e.word, said.owners, stored);
+    let effect = access::effect_at(acc, found);
+    let outcome = effect.outcome;
     let byte = choose::choose_byte(hit, e.byte, 0);
     let r = rules::own_rule(outcome, m, others != 0, dirty, byte);
+    let fetches = !hit & !dirty;
     let evicts = !hit & state::is_owner(state::byte_state(e.byte));
     let home = entry::home_of(e.tag, sets, index);
     Decision {
         entry: Entry {
             tag: line.place.tag,
             byte: r.own,
-            word: k.word,
+            word: effect.word,
         },
         others,
         bus: r.bus,
@@ -116,7 +118,7 @@ pub fn decide(
         home,
         evicted: e.word,
         stores: r.stores,
-        answer: answer::accept(k.value, k.swapped, !hit & !dirty, evicts, r.stores),
+        answer: answer::accept(effect.value, effect.swapped, fetches, evicts, r.stores),
     }
 }
 

@@ -53,13 +53,7 @@ fn flush_sound(
     let w = entry::word_at(words, at);
     empty_if(states, held, at);
     memory::store_if(memory, line.shape.lines, stores, line.number, w);
-    Answer {
-        refusal: 0,
-        value: 0,
-        swapped: 0,
-        reads: 0,
-        writes: answer::number(stores),
-    }
+    answer::accept(0, false, false, false, stores)
 }
 
 // A flush by port i of line a; refusal 8 where some port's entry at the line's index is unsound.

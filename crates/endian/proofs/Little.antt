@@ -1,12 +1,12 @@
 -- Laws of little-endian numbers: one number in bytes, and a list of them. Assumes nothing.
 use Prim.Native.Nat.{ℕ, zero, suc, _+_, _*_, _/_, _%_, _^_, _<_, _≤_}
 use mathlib.Core.Path.{_≡_, refl, ap, sym, _∙_}
-use mathlib.Core.List.{List, [], _∷_, _++_}
+use mathlib.Core.List.{List, [], _∷_}
 use native.Mathlib.Omega.{arith}
 use native.Mathlib.Nat.{add-zero, zero-add, suc-add, add-comm, mul-zero, mul-suc}
 use lib.ListN.{getD, set, length, take, drop, take-append-drop, length-drop}
 use lib.Pow.{pow-add}
-use lib.Seq.{getD-drop, drop-drop, drop-nil, sets}
+use lib.Seq.{getD-drop, drop-drop, sets}
 use Rattle.endian.specs.Little.{number, bytesOf, numbers, encoded}
 
 -- One byte more, below the others.

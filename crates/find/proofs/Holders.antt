@@ -1,6 +1,6 @@
 -- One port's entry, tested as the code does; and the search for the lowest-numbered holder. Assumes nothing.
-use Prim.Native.Nat.{ℕ, _+_, _<_, _≤_}
-use mathlib.Core.Path.{_≡_, refl, ap, sym, _∙_}
+use Prim.Native.Nat.{ℕ, _<_, _≤_}
+use mathlib.Core.Path.{_≡_, refl, ap, sym}
 use mathlib.Core.Bool.{Bool, true, false, cond, _&&_, _||_, not}
 use mathlib.Core.List.{List, []}
 use lib.ListN.{getD}
@@ -14,7 +14,7 @@ use Rattle.model.specs.declared.found.Found.the-variants.{Holder, Memory}
 use Rattle.model.specs.declared.shape.Shape.{Shape}
 use Rattle.model.specs.declared.shape.Place.{Place}
 use Rattle.model.specs.Shape.{inRange, indexOf, tagOf, entryOf, placeOf}
-use Rattle.model.specs.Tables.{Model, model, sound, seen, holds}
+use Rattle.model.specs.Tables.{model, sound, seen, holds}
 use Rattle.model.specs.Below.{lowest}
 use Rattle.model.specs.Find.{holderOr}
 use Rattle.model.proofs.Bounds.{limit-is}

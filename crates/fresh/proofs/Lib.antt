@@ -1,2 +1,2 @@
--- Laws of clearing a table, that several proofs cite.
+-- Laws of clearing a table.
 pub mod Clearing

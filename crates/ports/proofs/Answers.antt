@@ -9,7 +9,7 @@ use native.Mathlib.Nat.{add-zero, add-suc}
 use native.Mathlib.Numerals.{add-one}
 use lib.Dec.{eqb}
 use lib.ListN.{getD, set, length, take, drop, take-append-drop, length-drop}
-use lib.Seq.{getD-drop, drop-drop, drop-length, drop-set-add, take-set-le, sets, set-getD}
+use lib.Seq.{getD-drop, drop-length, drop-set-add, take-set-le, sets, set-getD}
 use lib.Count.{trailingZeros}
 use borrow.Author.Tests.{not-true, eqb-true}
 use borrow.Rule.Slice.PartMut.{midOf, postOf, putMid, put-same, post-is, set-mid-at}
@@ -24,21 +24,21 @@ use Rattle.protocol.proofs.States.{code-stateOf}
 use Rattle.protocol.proofs.Rows.{snooped-is}
 use Rattle.protocol.proofs.Kept.{quiet-same, quiet-keeps}
 use Rattle.endian.specs.Little.{number, numbers, bytesOf}
-use Rattle.endian.proofs.Little.{get-numbers, set-numbers}
+use Rattle.endian.proofs.Little.{set-numbers}
 use Rattle.model.specs.declared.shape.Shape.{Shape}
-use Rattle.model.specs.Shape.{entries, tagOf, entryOf}
+use Rattle.model.specs.Shape.{entries, entryOf}
 use Rattle.model.specs.Tables.{Model, seen, wordAt, holds}
 use Rattle.model.specs.Step.{putBelow}
 use Rattle.model.proofs.Entries.{putBelow-other, entry-lt, entry-inj, seen-tag, seen-here}
 use Rattle.ports.specs.declared.line.Line.{Line}
 use Rattle.ports.specs.declared.bus.Command.{Command}
 use Rattle.ports.specs.Bytes.{tablesIn, Filled}
-use Rattle.ports.specs.Entry.{Room, tagIn}
+use Rattle.ports.specs.Entry.{Room}
 use Rattle.ports.specs.Line.{Placed}
 use Rattle.ports.specs.Masks.{portsFrom}
-use Rattle.ports.specs.Bus.{commandOf, Holder, statesAnswered, wordsAnswered, AllStates, other, byteAnswered, wordAnswered, answered}
+use Rattle.ports.specs.Bus.{commandOf, statesAnswered, wordsAnswered, AllStates, other, byteAnswered, wordAnswered, answered}
 use Rattle.ports.proofs.Bytes.{model-eq, refilled}
-use Rattle.ports.proofs.Places.{some, few, tag-is, number-is}
+use Rattle.ports.proofs.Places.{some, few, number-is}
 use Rattle.ports.proofs.Puts.{put-id}
 use Rattle.ports.proofs.Masks.{First, mask-half, mask-drop, mask-some, mask-first}
 
@@ -68,20 +68,8 @@ part-sets a j xs vs h =
     ∙ ap (λ (l : List ℕ). take a xs ++ l) (append-nil (sets (drop a xs) j vs))
     ∙ behind a j xs vs
 
--- A number in a part is a number of the whole.
-part-number : (w a j k : ℕ) (xs : List ℕ) → a + w * j ≡ w * k → number w (drop (w * j) (midOf a (length xs - a) xs)) ≡ number w (drop (w * k) xs)
-part-number w a j k xs e = ap (λ (l : List ℕ). number w (drop (w * j) l)) (part-to-end xs a) ∙ ap (number w)
-    (drop-drop (w * j) a xs ∙ ap (λ (n : ℕ). drop n xs) e)
-
 -- A holder's answer from its own part is its answer in the whole.
-module _ {g h d : List ℕ} (c : Command) (w tag from index : ℕ) (room : Room g h d (from + index)) (holder : Holder tag g h (from + index)) where
-  -- The part has the entry, and it holds the line there too.
-  pub part-holder : Holder tag (midOf (4 * from) (length g - 4 * from) g) (midOf from (length h - from) h) index
-  part-holder = record {
-    same = part-number 4 (4 * from) index (from + index) g (omega arith) ∙ holder .same;
-    held = rw (part-get from index h) (holder .held);
-  }
-
+module _ {g h d : List ℕ} (c : Command) (w from index : ℕ) (room : Room g h d (from + index)) where
   pub tags-part : {g' : List ℕ} → g' ≡ midOf (4 * from) (length g - 4 * from) g → putMid (4 * from) (length g - 4 * from) g g' ≡ g
   tags-part e = rw e (put-same (4 * from) (length g - 4 * from) g)
 
@@ -190,12 +178,9 @@ module _ {l : Line} (v : Placed l) {g₀ h₀ d₀ : List ℕ} (bus w i : ℕ) (
         (λ r k. not-is (test (p + r)) (λ y. absurd (omega (arith, z, u .mask, mask-some test p (u .count) r k y)))))
         ∙ ap after (u .all)
 
-    module _ (left : rest ≡ 0 → ⊥) where
-      abbrev z : ℕ
-      z = trailingZeros 64 rest
-
+    module _ (left : rest ≡ 0 → ⊥) {z : ℕ} (ez : z ≡ trailingZeros 64 rest) where
       first : First test p (u .count) z
-      first = rw (u .mask) (mask-first test p (u .count) 64 (omega (arith, u .all, few v)) (omega (arith, left, u .mask)))
+      first = rw (ez, u .mask) (mask-first test p (u .count) 64 (omega (arith, u .all, few v)) (omega (arith, left, u .mask)))
 
       -- The next port of the mask.
       pub next-below : p + z < s .ports
@@ -228,18 +213,9 @@ module _ {l : Line} (v : Placed l) {g₀ h₀ d₀ : List ℕ} (bus w i : ℕ) (
           ap (λ (t : Model). getD (t .words) (entryOf s a (p + z)) 0) reached
           ∙ still s (some v) t₀ i a (busAt bus) w (p + z) (wordAnswered s t₀ i a (busAt bus) w) (numbers 8 (entries s) d₀)
 
-      tag-there : tagIn g (entryOf s a (p + z)) ≡ tagOf s a
-      unfolding answered tablesIn
-      tag-there =
-          sym (get-numbers 4 (entries s) (entryOf s a (p + z)) g in-k)
-          ∙ ap (λ (t : Model). getD (t .tags) (entryOf s a (p + z)) 0) reached ∙ seen-tag s t₀ a (p + z) held
-
       state-there : seen s t₀ a (p + z) ≡ orInvalid (stateOf (getD h₀ (entryOf s a (p + z)) 0))
       unfolding tablesIn
       state-there = seen-here s t₀ a (p + z) (seen-tag s t₀ a (p + z) held)
-
-      pub next-holder : Holder (l .place .tag) g h k
-      next-holder = rw (at-k, tag-is v) (record { same = tag-there; held = rw (byte-there, ← state-there) held })
 
       pub next-room : Room g h d k
       next-room = rw at-k (record {

@@ -155,19 +155,19 @@ mask-without f a (suc n) (suc j) i e l =
 
 -- What the lowest port in a mask gives, or x where the mask is empty.
 module _ (f : ℕ → Bool) (n : ℕ) {m : ℕ} (em : m ≡ portsFrom f 0 n) where
-  pub first-port : n ≤ 64 → (m ≡ 0 → ⊥) → First f 0 n (trailingZeros 64 m)
-  first-port few h = rw em (mask-first f 0 n 64 few (omega (arith, h, em)))
+  pub first-port : n ≤ 64 → (m ≡ 0 → ⊥) → {z : ℕ} → z ≡ trailingZeros 64 m → First f 0 n z
+  first-port few h ez = rw (ez, em) (mask-first f 0 n 64 few (omega (arith, h, em)))
 
   pub found-none : (at : ℕ → ℕ) (x : ℕ) → m ≡ 0 → x ≡ atOr at x (lowest f n)
   unfolding atOr
   found-none at x z =
       lowest-cases (λ l. x ≡ atOr at x l) f n (λ p l h. absurd (omega (arith, em, mask-some f 0 n p l (moved f (omega arith) h)))) (λ _. refl)
 
-  pub found-first : (at : ℕ → ℕ) (x : ℕ) → n ≤ 64 → (m ≡ 0 → ⊥) → at (trailingZeros 64 m) ≡ atOr at x (lowest f n)
+  pub found-first : (at : ℕ → ℕ) (x : ℕ) → n ≤ 64 → (m ≡ 0 → ⊥) → {z : ℕ} → z ≡ trailingZeros 64 m → at z ≡ atOr at x (lowest f n)
   unfolding atOr
-  found-first at x few h =
-      let z = first-port few h in
-      rw (lowest-is f n (trailingZeros 64 m) (z .below) (moved f (omega arith) (z .passes)) (λ r k. moved (λ y. not (f y)) (omega arith) (z .lower r k)))
+  found-first at x few h {z} ez =
+      let first = first-port few h ez in
+      rw (lowest-is f n z (first .below) (moved f (omega arith) (first .passes)) (λ r k. moved (λ y. not (f y)) (omega arith) (first .lower r k)))
 
 -- The mask without port i, as the code takes its bit away.
 pub bit-away : (f : ℕ → Bool) (n i : ℕ) {m : ℕ} → m ≡ portsFrom f 0 n → i < n → n ≤ 8

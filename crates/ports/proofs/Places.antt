@@ -70,15 +70,6 @@ pub placed : (s : Shape) (a : ℕ) → inRange s ≡ true → a < s .lines → {
 unfolding lineOf
 placed s a r h e = rw e (record { range = r; below = h; place = refl })
 
--- Port i's entry for a line of the shape.
-module _ (s : Shape) (a : ℕ) (r : inRange s ≡ true) (i : ℕ) (port : i < s .ports) {l : Line} (e : l ≡ lineOf s a) where
-  pub own-there : i * s .sets + l .place .index < entries s
-  unfolding lineOf placeOf
-  own-there = rw e (entry-lt s (some-sets s r) a i port)
-
-  pub own-small : i * s .sets + l .place .index < 512
-  own-small = omega (arith, own-there, bounded s r .entries-most)
-
 -- A home line fits: a tag of 32 bits, at most 64 sets.
 pub home-fits : (x n i : ℕ) → x < 2 ^ 32 → n ≤ 64 → i < n → x * n + i < 2 ^ 40
 home-fits x n i h g q = let m : x * n ≤ 2 ^ 32 * 64 = mul-le-mul {n₂ = 2 ^ 32} (omega arith) g in omega arith

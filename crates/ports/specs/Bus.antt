@@ -8,7 +8,7 @@ use lib.Seq.{sets}
 use lib.Dec.{eqb}
 use Rattle.endian.specs.Little.{bytesOf}
 use Rattle.protocol.specs.declared.rules.Bus.{Bus}
-use Rattle.protocol.specs.State.{code, stateOf, orInvalid, isState, valid}
+use Rattle.protocol.specs.State.{code, stateOf, isState}
 use Rattle.protocol.specs.Rules.{snooped, updates}
 use Rattle.protocol.specs.Coded.{busAt, nibbleAt, snoopRow}
 use Rattle.model.specs.declared.shape.Shape.{Shape}
@@ -16,16 +16,10 @@ use Rattle.model.specs.Shape.{entryOf}
 use Rattle.model.specs.Tables.{Model, model, seen, wordAt, holds}
 use Rattle.model.specs.Step.{putBelow}
 use Rattle.ports.specs.declared.bus.Command.{Command}
-use Rattle.ports.specs.Entry.{tagIn}
 
 -- The command of a number: its row of the snoop table, and whether it hands the new word on.
 unfoldable pub commandOf : ℕ → Command
 commandOf n = record { row = snoopRow n; hands = updates (busAt n) }
-
--- Entry k holds the line with the tag given.
-pub record Holder (tag : ℕ) (tags states : List ℕ) (k : ℕ) : Type 0 where
-  pub same : tagIn tags k ≡ tag
-  pub held : valid (orInvalid (stateOf (getD states k 0))) ≡ true
 
 -- A holder's answer to a command, in bytes: entry k's.
 unfoldable pub statesAnswered : Command → ℕ → List ℕ → List ℕ

@@ -1,6 +1,7 @@
 // The bus: each other holder of a line answers a command from its own part of the three tables.
 use crate::entry;
 use crate::line::Line;
+use crate::mask;
 use protocol::rules;
 ghost use mathlib.Core.Path.{_≡_};
 ghost use Prim.Native.Nat.{_+_, _<_};
@@ -9,7 +10,7 @@ ghost use Rattle.ports.specs.Bytes.{tablesIn, Filled};
 ghost use Rattle.ports.specs.Entry.{Room};
 ghost use Rattle.ports.specs.Line.{Placed};
 ghost use Rattle.ports.specs.Masks.{portsFrom};
-ghost use Rattle.ports.specs.Bus.{commandOf, Holder, statesAnswered, wordsAnswered, other, AllStates, answered};
+ghost use Rattle.ports.specs.Bus.{commandOf, statesAnswered, wordsAnswered, other, AllStates, answered};
 
 // A bus command as the ports hear it: its row of the snoop table, and whether it hands the new word to the holders.
 pub struct Command {
@@ -27,18 +28,9 @@ fn command_of(bus: u8) -> Command
     }
 }
 
-// A holder's answer, from its own part of the tables; w is the line's new word.
-fn answer(
-    tags: &mut [u8],
-    states: &mut [u8],
-    words: &mut [u8],
-    index: usize,
-    tag: u32,
-    c: Command,
-    w: u64,
-)
+// A holder's answer, from its own part of the tables, at the line's index there; w is the line's new word.
+fn answer(tags: &mut [u8], states: &mut [u8], words: &mut [u8], index: usize, c: Command, w: u64)
     requires { ⌜ Room (now tags) (now states) (now words) index ⌝ }
-    requires { ⌜ Holder tag (now tags) (now states) index ⌝ }
     ensures { λ r. ⌜ now (tags .exit) ≡ now (tags .entry) ⌝ }
     ensures { λ r. ⌜ now (states .exit) ≡ statesAnswered c index (now (states .entry)) ⌝ }
     ensures { λ r. ⌜ now (words .exit) ≡ wordsAnswered c w index (now (words .entry)) ⌝ }
@@ -57,12 +49,10 @@ fn answer_from(
     words: &mut [u8],
     from: usize,
     index: usize,
-    tag: u32,
     c: Command,
     w: u64,
 )
     requires { ⌜ Room (now tags) (now states) (now words) (from + index) ⌝ }
-    requires { ⌜ Holder tag (now tags) (now states) (from + index) ⌝ }
     ensures { λ r. ⌜ now (tags .exit) ≡ now (tags .entry) ⌝ }
     ensures { λ r. ⌜ now (states .exit) ≡ statesAnswered c (from + index) (now (states .entry)) ⌝ }
     ensures { λ r. ⌜ now (words .exit) ≡ wordsAnswered c w (from + index) (now (words .entry)) ⌝ }
@@ -74,7 +64,6 @@ fn answer_from(
         &mut states[from..],
         &mut words[words_from..],
         index,
-        tag,
         c,
         w,
     );
@@ -106,18 +95,9 @@ fn broadcast(
     let mut rest = others;
     let mut p = 0usize;
     while rest != 0 {
-        let skipped = u64::trailing_zeros(rest);
-        let q = p + skipped as usize;
-        answer_from(
-            tags,
-            states,
-            words,
-            q * sets,
-            line.place.index,
-            line.place.tag,
-            c,
-            w,
-        );
+        let skipped = mask::lowest_port(rest);
+        let q = p + skipped;
+        answer_from(tags, states, words, q * sets, line.place.index, c, w);
         rest = (rest >> skipped) / 2;
         p = q + 1;
     }

@@ -3,4 +3,5 @@
 pub mod bus;
 pub mod entry;
 pub mod line;
+pub mod mask;
 pub mod survey;

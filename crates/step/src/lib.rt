@@ -20,13 +20,7 @@ fn device_read(memory: &[u8], a: usize) -> Answer
     requires { ⌜ 8 * a + 8 ≤ length (now memory) ⌝ }
     ensures { λ r. ⌜ r ≡ accepted (wordIn (now (memory .entry)) a) 0 1 0 ⌝ }
 {
-    Answer {
-        refusal: 0,
-        value: entry::word_at(memory, a),
-        swapped: 0,
-        reads: 1,
-        writes: 0,
-    }
+    answer::accept(entry::word_at(memory, a), false, true, false, false)
 }
 
 fn perform_call(

@@ -13,9 +13,3 @@ pub fn choose_word(b: bool, x: u64, y: u64) -> u64
 {
     if b { x } else { y }
 }
-
-pub fn choose_index(b: bool, x: usize, y: usize) -> usize
-    ensures { λ r. ⌜ r ≡ cond b x y ⌝ }
-{
-    if b { x } else { y }
-}

@@ -37,7 +37,7 @@ put-entry-requires c κs =
     (refilled (start .pre .0 .filled) (k .0) (k .1 .0) (k .1 .1 .0), there (start .pre .1 .0) (start .args .i) (start .pre .1 .1 .0))
 
 store-if-requires : tie.Need-store-if-requires
-store-if-requires c κs = let start : tie.Start = search in (start .pre .0 .memory-fits, start .pre .1 .1 .1 .1 .room)
+store-if-requires c κs = let start : tie.Start = search in (start .pre .0 .memory-fits, start .pre .1 .1 .1 .1 .home)
 
 store-if-requires-2 : tie.Need-store-if-requires-2
 store-if-requires-2 c κs =

@@ -9,6 +9,10 @@ use Rattle.caches.proofs.Flushes.{flush-done}
 use Rattle.caches.proofs.flush.flush_sound.Statement.{statement}
 use Rattle.caches.proofs.flush.flush_sound.Tie as tie
 
+-- The start, seen from a call that lies far behind it.
+abbrev start-of-word-at : tie.After-word-at → tie.Start
+start-of-word-at c = search
+
 shr-held : tie.Need-shr-held
 shr-held c = let start : tie.Start = search in omega (arith, start .pre .1 .1 .0, few (start .pre .1 .0))
 
@@ -38,13 +42,13 @@ returns : tie.Need-returns
 unfolding tablesIn
 returns c =
     let after-store-if : tie.After-store-if = search in let after-empty-if : tie.After-empty-if = search in
-    let after-word-at : tie.After-word-at = search in let start : tie.Start = search in
+    let after-word-at : tie.After-word-at = search in let start = start-of-word-at after-word-at in
     let v = start .pre .1 .0 in
     let port = start .pre .1 .1 .0 in
     let said = start .pre .1 .1 .1 in
     flush-done v _ _ _ _ _ port (masks-states _ _ _ (said .0) (said .1)) _ _ (masks-hit _ _ _ (said .0) _ port) (masks-own _ _ _ (said .0) _ port)
     (owner-word v (start .pre .0 .filled) _ port (after-word-at .word-at .ensures)) (after-empty-if .empty-if .ensures)
-    (after-store-if .store-if .ensures) (c .number .ensures .0)
+    (after-store-if .store-if .ensures) (c .accept .ensures)
 
 pub flush-sound-spec : {M : Type 1} → statement M
 flush-sound-spec =
