@@ -38,7 +38,8 @@ pub struct Decision {
     pub answer: Answer,
 }
 
-// The word that a port finds: its own on a hit, else the lowest-numbered owner's, else memory's.
+// The word that a port finds: its own on a hit, else the lowest-numbered owner's, else memory's. Whether it is a hit, and who the owners are,
+// is given: tags and states are lent for what is said of them.
 fn find_word(
     tags: &[u8],
     states: &[u8],

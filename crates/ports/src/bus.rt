@@ -28,7 +28,8 @@ fn command_of(bus: u8) -> Command
     }
 }
 
-// A holder's answer, from its own part of the tables, at the line's index there; w is the line's new word.
+// A holder's answer, from its own part of the tables, at the line's index there; w is the line's new word. No tag is read or changed: who is
+// asked is said by a mask.
 fn answer(tags: &mut [u8], states: &mut [u8], words: &mut [u8], index: usize, c: Command, w: u64)
     requires { ⌜ Room (now tags) (now states) (now words) index ⌝ }
     ensures { λ r. ⌜ now (tags .exit) ≡ now (tags .entry) ⌝ }

@@ -47,7 +47,7 @@ fn entry_lanes(tags: &[u8], states: &[u8], words: &[u8], line: Line, k: usize) -
     lanes_at(line.place, entry::tag_at(tags, k), states[k])
 }
 
-// Asks every port, in one pass, the last one first.
+// Asks every port, in one pass, the last one first. No word is read: the words are lent so that what is said is said of the whole tables.
 pub fn survey_ports(tags: &[u8], states: &[u8], words: &[u8], line: Line) -> Masks
     requires { ⌜ Filled (line .shape) (now tags) (now states) (now words) ⌝ }
     requires { ⌜ Placed line ⌝ }
