@@ -9,6 +9,12 @@ use Rattle.caches.proofs.Decisions.{owner-word}
 use Rattle.caches.proofs.decision.find_word.Statement.{statement}
 use Rattle.caches.proofs.decision.find_word.Tie as tie
 
+returns : tie.Need-returns
+returns c = rw (c .if1 .taken)
+
+returns-2 : tie.Need-returns-2
+returns-2 c = let start : tie.Start = search in rw (c .before .if1 .left) (found-none _ _ (start .pre .1 .1) _ _ (c .if2 .taken))
+
 -- The start, seen from the owner's port; and that port is one of the ports.
 abbrev start : tie.After-lowest-port → tie.Start
 start c = search
@@ -18,12 +24,6 @@ below c =
     let else-2 : tie.Else2 = search in
     let s = start c in
     first-port _ _ (s .pre .1 .1) (omega (arith, few (s .pre .1 .0))) (else-2 .if2 .left) (c .lowest-port .ensures) .below
-
-returns : tie.Need-returns
-returns c = rw (c .if1 .taken)
-
-returns-2 : tie.Need-returns-2
-returns-2 c = let start : tie.Start = search in rw (c .before .if1 .left) (found-none _ _ (start .pre .1 .1) _ _ (c .if2 .taken))
 
 mul-word-at : tie.Need-mul-word-at
 mul-word-at c = let owner : tie.After-lowest-port = search in omega (arith, small (start owner .pre .1 .0) _ (below owner))
