@@ -16,13 +16,13 @@ use Rattle.protocol.specs.State.{code, stateOf, isState, valid, owner}
 use Rattle.protocol.proofs.States.{owner-valid}
 use Rattle.model.specs.declared.shape.Shape.{Shape}
 use Rattle.model.specs.Shape.{tagOf, entryOf}
-use Rattle.model.specs.Tables.{Model, model, stateAt, homeAt, sound, columnSound}
-use Rattle.model.specs.Step.{putBelow, store, byteAfter, wordAfter}
+use Rattle.model.specs.Tables.{Model, model, stateAt, homeAt, sound, holds, columnSound}
+use Rattle.model.specs.Step.{putBelow, store, byteAnswered, wordAnswered, byteAfter, wordAfter}
 use Rattle.model.proofs.Below.{below-all}
 use Rattle.model.proofs.Entries.{entry-inj}
 use Rattle.ports.specs.Bytes.{Bytes, modelIn, tablesIn}
 use Rattle.ports.specs.Entry.{putAt}
-use Rattle.ports.specs.Bus.{byteAnswered, wordAnswered, answered}
+use Rattle.ports.specs.Bus.{answered}
 use Rattle.ports.proofs.Bytes.{model-eq}
 use Rattle.ports.proofs.Puts.{own-last}
 
@@ -48,15 +48,6 @@ home-there s t i a h c o =
     ltb-true _ _ (rw v at (and-r (isState (stateOf (getD (t .states) (entryOf s a i) 0))) _ (below-all (λ p. sound s t (entryOf s a p)) (s .ports) c i h)))
 
 module _ (s : Shape) (pos : zero < s .sets) (t : Model) (i a : ℕ) (port : i < s .ports) (r : Rule) (w : ℕ) where
-  -- Another port's entry, after the command.
-  byte-sent : (p : ℕ) → p < s .ports → p ≢ i → byteAnswered s t i a (r .bus) w p ≡ byteAfter s t i a r p
-  unfolding byteAnswered byteAfter
-  byte-sent p q d = rw (ne-eqb p i d)
-
-  word-sent : (p : ℕ) → p < s .ports → p ≢ i → wordAnswered s t i a (r .bus) w p ≡ wordAfter s t i a r w p
-  unfolding wordAnswered wordAfter
-  word-sent p q d = rw (ne-eqb p i d)
-
   own-byte : code (r .own) ≡ byteAfter s t i a r i
   unfolding byteAfter
   own-byte = rw (eq-eqb i i refl)
@@ -70,11 +61,22 @@ module _ (s : Shape) (pos : zero < s .sets) (t : Model) (i a : ℕ) (port : i < 
   ruled = model (t .memory) (set (t .tags) (entryOf s a i) (tagOf s a)) (putBelow (entryOf s a) (byteAfter s t i a r) (s .ports) (t .states))
       (putBelow (entryOf s a) (wordAfter s t i a r w) (s .ports) (t .words))
 
-  pub put-ruled : {y : Model} → y ≡ answered s t i a (r .bus) w (s .ports)
-      → putAt y (entryOf s a i) (record { tag = tagOf s a; byte = code (r .own); word = w }) ≡ ruled
-  unfolding putAt answered
-  put-ruled e =
-      rw e (model-eq refl refl
-      (own-last (entryOf s a) (entry-inj s pos a) (byteAfter s t i a r) (s .ports) (t .states) i (code (r .own)) port own-byte
-      (byteAnswered s t i a (r .bus) w) byte-sent)
-      (own-last (entryOf s a) (entry-inj s pos a) (wordAfter s t i a r w) (s .ports) (t .words) i w port own-word (wordAnswered s t i a (r .bus) w) word-sent))
+  -- The ports asked are the other holders: whether the port itself is asked makes no difference, for its entry is put at the end.
+  module _ (asked : ℕ → Bool) (others : (p : ℕ) → p < s .ports → p ≢ i → asked p ≡ holds s t a p) where
+    byte-sent : (p : ℕ) → p < s .ports → p ≢ i → byteAnswered s t a asked (r .bus) p ≡ byteAfter s t i a r p
+    unfolding byteAnswered byteAfter
+    byte-sent p q d = rw (ne-eqb p i d, others p q d)
+
+    word-sent : (p : ℕ) → p < s .ports → p ≢ i → wordAnswered s t a asked (r .bus) w p ≡ wordAfter s t i a r w p
+    unfolding wordAnswered wordAfter
+    word-sent p q d = rw (ne-eqb p i d, others p q d)
+
+    pub put-ruled : {y : Model} → y ≡ answered s t a asked (r .bus) w (s .ports)
+        → putAt y (entryOf s a i) (record { tag = tagOf s a; byte = code (r .own); word = w }) ≡ ruled
+    unfolding putAt answered
+    put-ruled e =
+        rw e (model-eq refl refl
+        (own-last (entryOf s a) (entry-inj s pos a) (byteAfter s t i a r) (s .ports) (t .states) i (code (r .own)) port own-byte
+        (byteAnswered s t a asked (r .bus)) byte-sent)
+        (own-last (entryOf s a) (entry-inj s pos a) (wordAfter s t i a r w) (s .ports) (t .words) i w port own-word
+        (wordAnswered s t a asked (r .bus) w) word-sent))

@@ -5,7 +5,7 @@ use mathlib.Core.Bool.{Bool, true, false, cond, _&&_, not}
 use mathlib.Core.List.{List}
 use lib.ListN.{getD}
 use lib.Dec.{eqb}
-use borrow.Author.Tests.{not-true}
+use borrow.Author.Tests.{ne-eqb, not-true}
 use Rattle.endian.specs.Little.{numbers}
 use Rattle.words.specs.declared.access.Access.{Access}
 use Rattle.words.specs.declared.access.Effect.{Effect}
@@ -26,7 +26,8 @@ use Rattle.model.specs.declared.answer.Answer.{Answer}
 use Rattle.model.specs.Shape.{entries, entryOf}
 use Rattle.model.specs.Below.{lowest, atOr}
 use Rattle.model.specs.Tables.{Model, stateAt, homeAt, sound, seen, wordAt, memoryAt, holds, owns, dirty}
-use Rattle.model.specs.Step.{result, accepted, store, shared, wordFound, fetches, evictsOwner, applied, accessRule, accessed}
+use Rattle.model.specs.Step.{result, accepted, store, wordSupplied, byteAnswered, wordAnswered, shared, wordFound, fetches, evictsOwner, applied, accessRule}
+use Rattle.model.specs.Step.{accessed}
 use Rattle.model.proofs.Entries.{seen-tag, seen-here, home-is}
 use Rattle.ports.specs.declared.line.Line.{Line}
 use Rattle.ports.specs.declared.entry.Entry.{Entry}
@@ -34,21 +35,14 @@ use Rattle.ports.specs.declared.survey.Masks.{Masks}
 use Rattle.ports.specs.Bytes.{Bytes, bytes, modelIn, tablesIn, Filled}
 use Rattle.ports.specs.Entry.{wordIn, entryAt, putAt}
 use Rattle.ports.specs.Line.{Placed}
-use Rattle.ports.specs.Masks.{portsFrom, masksOf}
-use Rattle.ports.specs.Bus.{other, byteAnswered, wordAnswered, answered}
-use Rattle.ports.proofs.Masks.{mask-any}
-use Rattle.ports.proofs.Places.{some, index-is, tag-is, number-is, there, word-read}
-use Rattle.ports.proofs.Surveys.{masks-states}
+use Rattle.ports.specs.Masks.{portsFrom, inMask, masksOf}
+use Rattle.ports.specs.Bus.{answered}
+use Rattle.ports.proofs.Masks.{mask-any, in-mask, of-holders}
+use Rattle.ports.proofs.Places.{some, index-is, tag-is, number-is}
+use Rattle.ports.proofs.Surveys.{masks-states, masks-column}
 use Rattle.caches.specs.declared.decision.Decision.{Decision}
-use Rattle.caches.specs.Decision.{decided, Founded, carried}
-use Rattle.caches.proofs.Lines.{column}
+use Rattle.caches.specs.Decision.{other, decided, Founded, carried}
 use Rattle.caches.proofs.Applied.{held-together, home-there, put-ruled}
-
--- The word of a port that is found to own the line.
-pub owner-word : {l : Line} → Placed l → {g h d : List ℕ} → Filled (l .shape) g h d → (p : ℕ) → p < l .shape .ports → {x : ℕ}
-    → x ≡ wordIn d (p * l .shape .sets + l .place .index) → x ≡ wordAt (l .shape) (tablesIn (l .shape) g h d) (l .number) p
-unfolding wordAt tablesIn
-owner-word {l} v {d = d} f p q e = word-read f (there v p q) e ∙ ap (λ (k : ℕ). getD (numbers 8 (entries (l .shape)) d) k 0) (number-is v p)
 
 pub chosen-state : (h : Bool) (b : ℕ) {x : ℕ} → x ≡ cond h b 0 → isState (stateOf b) ≡ true → isState (stateOf x) ≡ true
 unfolding stateOf
@@ -74,7 +68,11 @@ unfolding decided carried accessed applied
 carried-accessed s pos t i a port acc m =
     let e : Effect = effectAt acc (wordFound s t i a) in
     let r : Rule = accessRule s t i a m e in
-    rw (bus-at (r .bus), put-ruled s pos t i a port r (e .word) refl)
+    rw (
+      bus-at (r .bus),
+      put-ruled s pos t i a port r (e .word) (inMask (portsFrom (other s t i a) 0 (s .ports)))
+          (λ p h d. in-mask (other s t i a) (s .ports) refl p h ∙ rw (ne-eqb p i d)) refl,
+    )
 
 module _ {l : Line} (v : Placed l) (g h d : List ℕ) (i : ℕ) (port : i < l .shape .ports) where
   abbrev s : Shape
@@ -107,12 +105,11 @@ module _ {l : Line} (v : Placed l) (g h d : List ℕ) (i : ℕ) (port : i < l .s
       unfolding entryAt
       owner-own = eo ∙ rw (ey, entry-own)
 
-      -- The decision, from what the code has found out: on whether it is a hit, the others' mask and whether the line is dirty; on memory's
-      -- word; the word found, its effect, the own state and the rule; and the victim.
+      -- The decision, from what the code has found out: on whether it is a hit, the others' mask and whether the line is dirty; the word
+      -- found, its effect, the own state and the rule; and the victim.
       pub decide-done : (m₀ : List ℕ) (acc : Access) (m : Mode) → {hit : Bool} → hit ≡ holds s t′ a i → {others : ℕ}
           → others ≡ portsFrom (other s t′ i a) 0 (s .ports) → {dirt : Bool} → dirt ≡ dirty s t′ a
-          → {f w : ℕ} → f ≡ memoryAt (modelIn s (bytes m₀ g h d)) a
-          → w ≡ cond hit (e .word) (atOr (wordAt s t′ a) f (lowest (owns s t′ a) (s .ports)))
+          → {w : ℕ} → w ≡ cond hit (e .word) (wordSupplied s (modelIn s (bytes m₀ g h d)) a)
           → {k : Effect} → k ≡ effectAt acc w → {x : ℕ} → x ≡ cond hit (e .byte) 0
           → {r : Coded} → r ≡ coded (rule (k .outcome) m (not (eqb others 0)) dirt (orInvalid (stateOf x)))
           → {home : ℕ} → home ≡ e .tag * s .sets + l .place .index
@@ -128,14 +125,15 @@ module _ {l : Line} (v : Placed l) (g h d : List ℕ) (i : ℕ) (port : i < l .s
             answer = n;
           }) (decided s (modelIn s (bytes m₀ g h d)) i a acc m)
       unfolding entryAt coded decided accessed wordFound fetches evictsOwner shared dirty accessRule wordAt seen tablesIn modelIn
-      decide-done m₀ acc m hh {others} ho hd {f} {w} hf hw {k} hk {x} hx {r} hr {home} hm hn =
+      decide-done m₀ acc m hh {others} ho hd {w} hw {k} hk {x} hx {r} hr {home} hm hn =
           let es : not (eqb others 0) ≡ shared s t′ i a = rw ho (shared-any s t′ i a) in
           let ex : orInvalid (stateOf x) ≡ seen s t′ a i = rw (hx, hh, entry-own) (hit-state s t′ i a) in
-          rw (hn, hr, hk, hw, hf, es, ho, hd, ex, hh, owner-own, home-own hm, tag-is v, entry-own)
+          rw (hn, hr, hk, hw, es, ho, hd, ex, hh, owner-own, home-own hm, tag-is v, entry-own)
 
 -- The calls that carry a decision out, together.
 pub carry-done : {l : Line} → Placed l → (b b′ : Bytes) (i : ℕ) (d : Decision) {u : Model}
-    → u ≡ answered (l .shape) (tablesIn (l .shape) (b .tags) (b .states) (b .words)) i (l .number) (busAt (d .bus)) (d .entry .word) (l .shape .ports)
+    → u ≡ answered (l .shape) (tablesIn (l .shape) (b .tags) (b .states) (b .words)) (l .number) (inMask (d .others)) (busAt (d .bus)) (d .entry .word)
+    (l .shape .ports)
     → tablesIn (l .shape) (b′ .tags) (b′ .states) (b′ .words) ≡ putAt u (i * l .shape .sets + l .place .index) (d .entry)
     → {m₁ : List ℕ} → m₁ ≡ store (d .evicts) (d .home) (d .evicted) (numbers 8 (l .shape .lines) (b .memory))
     → numbers 8 (l .shape .lines) (b′ .memory) ≡ store (d .stores) (l .number) (d .entry .word) m₁
@@ -144,7 +142,7 @@ unfolding carried answered byteAnswered wordAnswered putAt wordAt seen tablesIn 
 carry-done {l} v b b′ i d ea ep e₁ e₂ =
     let s = l .shape in
     let a = l .number in
-    let now : Model = answered s (tablesIn s (b .tags) (b .states) (b .words)) i a (busAt (d .bus)) (d .entry .word) (s .ports) in
+    let now : Model = answered s (tablesIn s (b .tags) (b .states) (b .words)) a (inMask (d .others)) (busAt (d .bus)) (d .entry .word) (s .ports) in
     let tables : tablesIn s (b′ .tags) (b′ .states) (b′ .words) ≡ putAt now (entryOf s a i) (d .entry) = ep ∙ rw (ea, number-is v i) in
     let memory : numbers 8 (s .lines) (b′ .memory)
     ≡ store (d .stores) a (d .entry .word) (store (d .evicts) (d .home) (d .evicted) (numbers 8 (s .lines) (b .memory))) = e₂ ∙ rw e₁ in
@@ -154,14 +152,14 @@ module _ {l : Line} (v : Placed l) (b : Bytes) (i : ℕ) (port : i < l .shape .p
     (e : d ≡ decided (l .shape) (modelIn (l .shape) b) i (l .number) acc m) where
   -- What a decision rests on, where every entry is sound.
   pub founded : {x : Masks} → x ≡ masksOf (l .shape) (tablesIn (l .shape) (b .tags) (b .states) (b .words)) (l .number) → x .sound ≡ true
-      → Founded (l .shape) (tablesIn (l .shape) (b .tags) (b .states) (b .words)) i (l .number) d
+      → Founded (l .shape) (tablesIn (l .shape) (b .tags) (b .states) (b .words)) (l .number) d
   unfolding decided evictsOwner seen tablesIn modelIn
   founded ex u =
       let t = modelIn (l .shape) b in
       rw e (record {
-        mask = refl;
+        mask = of-holders (l .shape) _ (l .number) (other (l .shape) t i (l .number)) (λ p. and-r (not (eqb p i)) _) refl;
         command = bus-below _;
-        home = λ h. home-there (l .shape) t i (l .number) port (sym (column (l .shape) b (l .number) ex) ∙ u)
+        home = λ h. home-there (l .shape) t i (l .number) port (sym (masks-column (l .shape) b (l .number) ex) ∙ u)
             (and-r (not (holds (l .shape) t (l .number) i)) _ h);
       })
 

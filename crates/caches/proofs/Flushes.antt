@@ -19,7 +19,7 @@ use Rattle.model.specs.declared.shape.Shape.{Shape}
 use Rattle.model.specs.declared.answer.Answer.{Answer}
 use Rattle.model.specs.Shape.{entryOf}
 use Rattle.model.specs.Tables.{Model, model, seen, wordAt, holds, owns}
-use Rattle.model.specs.Step.{result, accepted, store, evictsOwner, byteAfter, wordAfter, applied, flushed}
+use Rattle.model.specs.Step.{result, accepted, store, byteAnswered, wordAnswered, evictsOwner, byteAfter, wordAfter, applied, flushed}
 use Rattle.model.proofs.Entries.{seen-tag}
 use Rattle.ports.specs.declared.line.Line.{Line}
 use Rattle.ports.specs.Bytes.{Bytes, bytes, modelIn, tablesIn}
@@ -43,7 +43,8 @@ module _ (s : Shape) (pos : zero < s .sets) (t : Model) (i a : ℕ) (port : i < 
       model-eq refl (sym (ap (set (t .tags) (entryOf s a i)) (sym (seen-tag s t a i held)) ∙ set-getD (t .tags) (entryOf s a i) 0))
       (ap (λ x. set (t .states) (entryOf s a i) (code x)) (sym (flush-own (seen s t a i))))
       (sym (set-getD (t .words) (entryOf s a i) 0))
-      ∙ put-ruled s pos t i a port flushing (wordAt s t a i) (quiet-answered s pos t i a (wordAt s t a i) fine (flush-bus (seen s t a i)))
+      ∙ put-ruled s pos t i a port flushing (wordAt s t a i) (holds s t a) (λ p h d. refl)
+      (quiet-answered s pos t a (holds s t a) (λ p h v. v) (wordAt s t a i) fine (flush-bus (seen s t a i)))
 
 -- The flush in the model, from the tables alone.
 module _ (s : Shape) (b : Bytes) (i a : ℕ) where
@@ -54,7 +55,7 @@ module _ (s : Shape) (b : Bytes) (i a : ℕ) where
       → flushed s (modelIn s b) i a ≡ result (accepted 0 0 0 (bit (owns s t a i)))
       (let u = ruled s pos t i a port (flushRule (seen s t a i)) (wordAt s t a i) in model
       (store (owns s t a i) a (wordAt s t a i) (numbers 8 (s .lines) (b .memory))) (u .tags) (u .states) (u .words))
-  unfolding flushed applied evictsOwner flushRule byteAfter wordAfter wordAt seen tablesIn modelIn
+  unfolding flushed applied evictsOwner flushRule byteAnswered wordAnswered byteAfter wordAfter wordAt seen tablesIn modelIn
   flush-held pos port h = rw h
 
   flush-away : Is (not (holds s t a i)) → flushed s (modelIn s b) i a ≡ result (accepted 0 0 0 0) (modelIn s b)

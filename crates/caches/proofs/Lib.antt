@@ -1,5 +1,5 @@
 -- Laws of one access or flush, that several proofs cite.
-pub mod Lines
 pub mod Applied
+pub mod Supplied
 pub mod Decisions
 pub mod Flushes

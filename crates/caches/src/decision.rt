@@ -1,12 +1,12 @@
 // What an access comes to, decided before anything is written, and how it is carried out.
 use crate::answer;
 use crate::memory;
+use crate::supply;
 use model::answer::Answer;
 use ports::bus;
 use ports::entry;
 use ports::entry::Entry;
 use ports::line::Line;
-use ports::mask;
 use ports::survey::Masks;
 use protocol::rules;
 use protocol::state;
@@ -17,9 +17,9 @@ use words::choose;
 ghost use mathlib.Core.Path.{_≡_};
 ghost use mathlib.Core.Bool.{true, cond};
 ghost use Prim.Native.Nat.{_<_};
-ghost use Rattle.model.specs.Below.{lowest, atOr};
-ghost use Rattle.model.specs.Tables.{wordAt, owns};
-ghost use Rattle.ports.specs.Bytes.{bytes, modelIn, tablesIn, Filled, Fitting};
+ghost use Rattle.model.specs.Tables.{owns};
+ghost use Rattle.model.specs.Step.{wordSupplied};
+ghost use Rattle.ports.specs.Bytes.{bytes, modelIn, tablesIn, Fitting};
 ghost use Rattle.ports.specs.Line.{Placed};
 ghost use Rattle.ports.specs.Masks.{portsFrom, masksOf};
 ghost use Rattle.ports.specs.Bus.{AllStates};
@@ -38,9 +38,9 @@ pub struct Decision {
     pub answer: Answer,
 }
 
-// The word that a port finds: its own on a hit, else the lowest-numbered owner's, else memory's. Whether it is a hit, and who the owners are,
-// is given: tags and states are lent for what is said of them.
+// The word that a port finds: its own on a hit, else the one that is supplied. Whether it is a hit, and who the owners are, is given.
 fn find_word(
+    memory: &[u8],
     tags: &[u8],
     states: &[u8],
     words: &[u8],
@@ -48,27 +48,18 @@ fn find_word(
     hit: bool,
     own: u64,
     owners: u64,
-    memory: u64,
 ) -> u64
-    requires { ⌜ Filled (line .shape) (now tags) (now states) (now words) ⌝ }
+    requires { ⌜ Fitting (line .shape) (bytes (now memory) (now tags) (now states) (now words)) ⌝ }
     requires { ⌜ Placed line ⌝ }
     requires { ⌜ owners ≡ portsFrom (owns (line .shape) (tablesIn (line .shape) (now tags) (now states) (now words)) (line .number)) 0
         (line .shape .ports) ⌝ }
-    ensures { λ r. ⌜ r ≡ cond hit own (atOr
-        (wordAt (line .shape) (tablesIn (line .shape) (now (tags .entry)) (now (states .entry)) (now (words .entry))) (line .number))
-        memory
-        (lowest (owns (line .shape) (tablesIn (line .shape) (now (tags .entry)) (now (states .entry)) (now (words .entry))) (line .number))
-        (line .shape .ports))) ⌝ }
+    ensures { λ r. ⌜ r ≡ cond hit own (wordSupplied (line .shape)
+        (modelIn (line .shape) (bytes (now (memory .entry)) (now (tags .entry)) (now (states .entry)) (now (words .entry)))) (line .number)) ⌝ }
 {
     if hit {
         return own;
     }
-    if owners == 0 {
-        return memory;
-    }
-    let p = mask::lowest_port(owners);
-    let sets = line.shape.sets;
-    entry::word_at(words, p * sets + line.place.index)
+    supply::supplied_word(memory, tags, states, words, line, owners)
 }
 
 // What an access by port i comes to, from what the ports say of the line; every entry is sound.
@@ -98,8 +89,7 @@ pub fn decide(
     let hit = own == 1;
     let others = said.holders - (own << i);
     let dirty = said.owners != 0;
-    let stored = entry::word_at(memory, line.number);
-    let found = find_word(tags, states, words, line, hit, e.word, said.owners, stored);
+    let found = find_word(memory, tags, states, words, line, hit, e.word, said.owners);
     let effect = access::effect_at(acc, found);
     let outcome = effect.outcome;
     let byte = choose::choose_byte(hit, e.byte, 0);
@@ -137,7 +127,7 @@ pub fn carry_out(
     requires { ⌜ Placed line ⌝ }
     requires { ⌜ i < line .shape .ports ⌝ }
     requires { ⌜ AllStates (line .shape) (line .number) (now states) ⌝ }
-    requires { ⌜ Founded (line .shape) (tablesIn (line .shape) (now tags) (now states) (now words)) i (line .number) d ⌝ }
+    requires { ⌜ Founded (line .shape) (tablesIn (line .shape) (now tags) (now states) (now words)) (line .number) d ⌝ }
     ensures { λ r. ⌜ modelIn (line .shape) (bytes (now (memory .exit)) (now (tags .exit)) (now (states .exit)) (now (words .exit)))
         ≡ carried (line .shape)
         (modelIn (line .shape) (bytes (now (memory .entry)) (now (tags .entry)) (now (states .entry)) (now (words .entry))))
@@ -146,7 +136,7 @@ pub fn carry_out(
     let shape = line.shape;
     let sets = shape.sets;
     let e = d.entry;
-    bus::ask(tags, states, words, line, i, d.others, d.bus, e.word);
+    bus::ask(tags, states, words, line, d.others, d.bus, e.word);
     entry::put_entry(shape, tags, states, words, i * sets + line.place.index, e);
     memory::store_if(memory, shape.lines, d.evicts, d.home, d.evicted);
     memory::store_if(memory, shape.lines, d.stores, line.number, e.word);

@@ -2,17 +2,14 @@
 use crate::answer;
 use crate::memory;
 use model::answer::Answer;
-use model::shape::Shape;
 use ports::entry;
-use ports::line;
 use ports::line::Line;
-use ports::survey;
 use ports::survey::Masks;
 ghost use mathlib.Core.Path.{_≡_};
 ghost use mathlib.Core.Bool.{true, cond};
 ghost use Prim.Native.Nat.{_<_};
 ghost use lib.ListN.{set, length};
-ghost use Rattle.model.specs.Step.{result, flushed, ifSound};
+ghost use Rattle.model.specs.Step.{result, flushed};
 ghost use Rattle.ports.specs.Bytes.{bytes, modelIn, tablesIn, Fitting};
 ghost use Rattle.ports.specs.Line.{Placed};
 ghost use Rattle.ports.specs.Masks.{masksOf};
@@ -28,7 +25,7 @@ fn empty_if(states: &mut [u8], on: bool, k: usize)
 }
 
 // The flush by port i, from what the ports say of the line; every entry is sound.
-fn flush_sound(
+pub fn flush_line(
     memory: &mut [u8],
     tags: &[u8],
     states: &mut [u8],
@@ -54,28 +51,4 @@ fn flush_sound(
     empty_if(states, held, at);
     memory::store_if(memory, line.shape.lines, stores, line.number, w);
     answer::accept(0, false, false, false, stores)
-}
-
-// A flush by port i of line a; refusal 8 where some port's entry at the line's index is unsound.
-pub fn flush_line(
-    shape: Shape,
-    memory: &mut [u8],
-    tags: &[u8],
-    states: &mut [u8],
-    words: &[u8],
-    i: usize,
-    a: usize,
-) -> Answer
-    requires { ⌜ Fitting shape (bytes (now memory) (now tags) (now states) (now words)) ⌝ }
-    requires { ⌜ (i < shape .ports) × (a < shape .lines) ⌝ }
-    ensures { λ r. ⌜ result r (modelIn shape (bytes (now (memory .exit)) (now (tags .entry)) (now (states .exit)) (now (words .entry))))
-        ≡ ifSound shape (modelIn shape (bytes (now (memory .entry)) (now (tags .entry)) (now (states .entry)) (now (words .entry)))) a
-        (flushed shape (modelIn shape (bytes (now (memory .entry)) (now (tags .entry)) (now (states .entry)) (now (words .entry)))) i a) ⌝ }
-{
-    let line = line::line_of(shape, a);
-    let said = survey::survey_ports(tags, states, words, line);
-    if !said.sound {
-        return answer::refuse(8);
-    }
-    flush_sound(memory, tags, states, words, line, i, said)
 }

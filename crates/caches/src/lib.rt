@@ -1,6 +1,8 @@
-// One access or flush by a port, on main memory and the three tables in bytes.
+// One order on a line, on main memory and the three tables in bytes: an access or a flush by a port, or a device's read.
 pub mod access;
 pub mod answer;
 mod decision;
+pub mod device;
 pub mod flush;
 mod memory;
+mod supply;

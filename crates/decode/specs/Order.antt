@@ -1,12 +1,9 @@
--- An order of a word and an operand, the access of a kind, and a call whose port and line are there.
-use Prim.Native.Nat.{ℕ, _<_}
+-- An order of a word and an operand, and the access of a kind.
+use Prim.Native.Nat.{ℕ}
 use mathlib.Core.Bool.{cond}
 use lib.Dec.{eqb}
 use Rattle.words.specs.declared.access.Access.{Access}
 use Rattle.words.specs.declared.access.Access.the-variants.{Read, Write, Swap}
-use Rattle.model.specs.declared.shape.Shape.{Shape}
-use Rattle.model.specs.declared.order.Call.{Call}
-use Rattle.model.specs.declared.order.Call.the-variants.{ByPort, Flush, DeviceRead}
 use Rattle.model.specs.declared.order.Decoded.{Decoded}
 use Rattle.model.specs.declared.order.Decoded.the-variants.{Asked, Refused}
 use Rattle.model.specs.Order.{Order}
@@ -22,9 +19,3 @@ accessOf kind mask compare x = cond (eqb kind 0) Read (cond (eqb kind 1) (Write 
 abbrev pub refusalIn : Decoded → ℕ
 refusalIn (Asked c) = 0
 refusalIn (Refused n) = n
-
--- The call names a port below ports and a line below lines.
-abbrev pub There : Shape → Call → Type 0
-There s (ByPort acc m i a) = (i < s .ports) × (a < s .lines)
-There s (Flush i a) = (i < s .ports) × (a < s .lines)
-There s (DeviceRead a) = a < s .lines

@@ -1,11 +1,11 @@
-// An order word taken apart, once.
+// An order word taken apart, once; and what is asked of the call that comes of it.
 use model::order::Call;
 use model::order::Decoded;
 use model::shape::Shape;
 use protocol::state::Mode;
 use words::access::Access;
 ghost use mathlib.Core.Path.{_≡_};
-ghost use Rattle.model.specs.Order.{modeIn, checked, callOf, decode};
+ghost use Rattle.model.specs.Order.{modeIn, checked, callOf, decode, lineIn, looks};
 ghost use Rattle.decode.specs.Order.{order, accessOf, refusalIn};
 
 fn mode_in(w: u64) -> Mode
@@ -82,5 +82,27 @@ pub fn refusal_of(d: Decoded) -> u64
     match d {
         Decoded::Asked(_) => 0,
         Decoded::Refused(n) => n,
+    }
+}
+
+// The line of a call.
+pub fn line_in(call: Call) -> usize
+    ensures { λ r. ⌜ r ≡ lineIn call ⌝ }
+{
+    match call {
+        Call::ByPort(_, _, _, a) => a,
+        Call::Flush(_, a) => a,
+        Call::DeviceRead(a) => a,
+    }
+}
+
+// The call looks at the ports' entries: all but a device read.
+pub fn looks(call: Call) -> bool
+    ensures { λ r. ⌜ r ≡ looks call ⌝ }
+{
+    match call {
+        Call::ByPort(_, _, _, _) => true,
+        Call::Flush(_, _) => true,
+        Call::DeviceRead(_) => false,
     }
 }

@@ -2,11 +2,12 @@
 use Prim.Native.Nat.{ℕ, _<_}
 use mathlib.Core.Path.{_≡_, refl, _∙_, ap}
 use mathlib.Core.Logic.{_≢_}
-use mathlib.Core.Bool.{not}
+use mathlib.Core.Bool.{Bool, true, false, _&&_, not}
 use native.Mathlib.Omega.{arith}
 use native.Mathlib.Decide.{ℕ-discrete}
 use lib.ListN.{length}
-use borrow.Author.Tests.{not-true}
+use lib.Dec.{eqb}
+use borrow.Author.Tests.{eq-eqb, eqb-true, eqb-false, not-true}
 use Rattle.protocol.specs.declared.state.Mode.{Mode}
 use Rattle.words.specs.declared.access.Access.{Access}
 use Rattle.words.specs.declared.access.Effect.{Effect}
@@ -17,13 +18,14 @@ use Rattle.words.proofs.Bools.{Is, by-bool}
 use Rattle.words.proofs.Effects.{unwritten}
 use Rattle.protocol.proofs.Kept.{flush-own, flush-bus, flush-stores, quiet-same, quiet-keeps}
 use Rattle.model.specs.declared.shape.Shape.{Shape}
+use Rattle.model.specs.declared.order.Call.{Call}
 use Rattle.model.specs.declared.order.Call.the-variants.{ByPort, Flush, DeviceRead}
 use Rattle.model.specs.declared.order.Decoded.{Decoded}
 use Rattle.model.specs.declared.order.Decoded.the-variants.{Asked, Refused}
 use Rattle.model.specs.Shape.{inRange, entryOf}
-use Rattle.model.specs.Order.{Order, decode}
+use Rattle.model.specs.Order.{Order, decode, lineIn, looks, There}
 use Rattle.model.specs.Tables.{Model, sound, seen, wordAt, memoryAt, holds, owns, dirty, columnSound}
-use Rattle.model.specs.Step.{Result, shared, wordFound, applied, accessRule, accessed, flushed, perform, step}
+use Rattle.model.specs.Step.{Result, wordSupplied, shared, wordFound, applied, accessRule, accessed, flushed, called, perform, step}
 use Rattle.model.specs.Flat.{Flat, FlatResult, wordIn, markIn, flatAccess, flatPerform, flatStep}
 use Rattle.model.specs.Agreement.{Agrees}
 use Rattle.model.proofs.Below.{all-below, none-below}
@@ -33,7 +35,7 @@ use Rattle.model.proofs.Touched.{LineGood, Tidy, Ready, Leaves}
 use Rattle.model.proofs.Applied.{line-after, leaves}
 use Rattle.model.proofs.Lent.{facts-lent, some-sets}
 use Rattle.model.proofs.Moved.{Moved, access-moves, unmarked-access}
-use Rattle.model.proofs.Decoded.{Sound, decode-sound}
+use Rattle.model.proofs.Decoded.{line-there, Sound, decode-sound}
 
 -- Tables that go with a flat memory: what every order keeps.
 pub record Sim (s : Shape) (t : Model) (f : Flat) : Type 0 where
@@ -89,7 +91,7 @@ module _ (s : Shape) (t : Model) (f : Flat) (sim : Sim s t f) (a : ℕ) (line : 
       the-rule = accessRule s t i a m eff
 
       found-is : wordFound s t i a ≡ wordIn f a
-      unfolding wordFound
+      unfolding wordSupplied wordFound
       found-is = word-found (s .ports) i (seen s t a) (wordAt s t a) (memoryAt t a) (wordIn f a) port (sim .good a line)
 
       access-line : LineGood s (applied s t i a the-rule (eff .word)) a (eff .word)
@@ -115,16 +117,12 @@ module _ (s : Shape) (t : Model) (f : Flat) (sim : Sim s t f) (a : ℕ) (line : 
           (moves .words-length ∙ sim .flat-words) (moves .marks-length ∙ sim .flat-marks) (moves .word-other) (moves .mark-other)
           (rw (moves .word (rw (sim .flat-words) line)) access-line) access-marks
 
-      access-goes : Goes s (accessed s t i a acc m) (flatAccess f acc m a)
+      pub access-goes : Goes s (accessed s t i a acc m) (flatAccess f acc m a)
       unfolding accessed
       access-goes = rw found-is (record {
         agrees = rw (moves .answer) (record { refusal = refl; value = λ _. refl; swapped = refl; below-8 = omega arith });
         sim = access-sim;
       })
-
-      pub perform-access : Goes s (perform s t (Asked (ByPort acc m i a))) (flatPerform f (Asked (ByPort acc m i a)))
-      unfolding perform flatPerform
-      perform-access = rw column access-goes
 
     -- A flush.
     abbrev flushes : Rule
@@ -140,13 +138,17 @@ module _ (s : Shape) (t : Model) (f : Flat) (sim : Sim s t f) (a : ℕ) (line : 
     flush-others : (q : ℕ) → q < s .ports → q ≢ i → seen s flushedTables a q ≡ seen s t a q
     flush-others q h d = flush-after .others q h d ∙ rw (flush-bus (seen s t a i)) (quiet-same (seen s t a q))
 
+    not-itself : (q : ℕ) → Is (not (eqb q i)) → q ≢ i
+    not-itself q k = eqb-false q i (not-true (eqb q i) k)
+
     flush-line : Is (holds s t a i) → LineGood s flushedTables a (wordIn f a)
     flush-line v =
-        gone-good (s .ports) i (seen s t a) (wordAt s t a) (memoryAt t a) (wordIn f a) (sim .good a line) _ _ _
-        (flush-after .own ∙ flush-own (seen s t a i)) flush-others
-        (λ q h d x. flush-after .words q h d (rw (flush-others q h d) x) ∙ rw (flush-bus (seen s t a i), quiet-keeps))
-        (λ o. flush-after .stored (flush-stores (seen s t a i) ∙ o) ∙ sim .good a line .words i port v)
-        (λ o. flush-after .unstored (ap not (flush-stores (seen s t a i)) ∙ o))
+        gone-good (s .ports) (λ q. eqb q i) (seen s t a) (wordAt s t a) (memoryAt t a) (wordIn f a) (sim .good a line) _ _ _
+        (λ p _ k. rw (eqb-true p i k) (flush-after .own ∙ flush-own (seen s t a i))) (λ q h k. flush-others q h (not-itself q k))
+        (λ q h k x. let d = not-itself q k in
+        flush-after .words q h d (rw (flush-others q h d) x) ∙ rw (flush-bus (seen s t a i), quiet-keeps))
+        (λ p _ k o. flush-after .stored (flush-stores (seen s t a i) ∙ rw (eqb-true p i k) at o) ∙ sim .good a line .words i port v)
+        (λ u. flush-after .unstored (ap not (flush-stores (seen s t a i)) ∙ u i port (eq-eqb i i refl)))
 
     flush-marks : Unowned (s .ports) (seen s t a) → Unowned (s .ports) (seen s flushedTables a)
     flush-marks u p h =
@@ -168,20 +170,34 @@ module _ (s : Shape) (t : Model) (f : Flat) (sim : Sim s t f) (a : ℕ) (line : 
       sim = sim;
     })
 
-    pub perform-flush : Goes s (perform s t (Asked (Flush i a))) (flatPerform f (Asked (Flush i a)))
-    unfolding perform
-    perform-flush = rw column (by-bool (holds s t a i) flush-held flush-missed)
+    pub flush-goes : Goes s (flushed s t i a) (flatPerform f (Asked (Flush i a)))
+    flush-goes = by-bool (holds s t a i) flush-held flush-missed
 
--- An order, whatever it is taken apart into.
-perform-goes : (s : Shape) (t : Model) (f : Flat) → Sim s t f → (d : Decoded) → Sound s d → Goes s (perform s t d) (flatPerform f d)
-unfolding perform flatPerform
-perform-goes s t f sim (Refused n) h = record { agrees = record { refusal = refl; value = λ _. refl; swapped = refl; below-8 = h }; sim = sim }
-perform-goes s t f sim (Asked (ByPort acc m i a)) h = perform-access s t f sim a (h .1) i (h .0) acc m
-perform-goes s t f sim (Asked (Flush i a)) h = perform-flush s t f sim a (h .1) i (h .0)
-perform-goes s t f sim (Asked (DeviceRead a)) h = record {
-  agrees = record { refusal = refl; value = λ e. sim .good a h .clean (sim .unmarked a h e); swapped = refl; below-8 = omega arith };
-  sim = sim;
-}
+  -- A device read.
+  pub device-read-goes : Goes s (called s t (DeviceRead a)) (flatPerform f (Asked (DeviceRead a)))
+  unfolding called flatPerform
+  device-read-goes = record {
+    agrees = record { refusal = refl; value = λ e. sim .good a line .clean (sim .unmarked a line e); swapped = refl; below-8 = omega arith };
+    sim = sim;
+  }
+
+module _ (s : Shape) (t : Model) (f : Flat) (sim : Sim s t f) where
+  -- A call, whatever it asks.
+  called-goes : (c : Call) → There s c → Goes s (called s t c) (flatPerform f (Asked c))
+  unfolding called flatPerform
+  called-goes (ByPort acc m i a) h = access-goes s t f sim a (h .1) i (h .0) acc m
+  called-goes (Flush i a) h = flush-goes s t f sim a (h .1) i (h .0)
+  called-goes (DeviceRead a) h = device-read-goes s t f sim a h
+
+  and-none : (b : Bool) → (b && false) ≡ false
+  and-none true = refl
+  and-none false = refl
+
+  -- An order, whatever it is taken apart into.
+  perform-goes : (d : Decoded) → Sound s d → Goes s (perform s t d) (flatPerform f d)
+  unfolding perform flatPerform
+  perform-goes (Refused n) h = record { agrees = record { refusal = refl; value = λ _. refl; swapped = refl; below-8 = h }; sim = sim }
+  perform-goes (Asked c) h = rw (column s t f sim (lineIn c) (line-there s c h), and-none (looks c)) (called-goes c h)
 
 pub step-goes : (s : Shape) (t : Model) (f : Flat) → Sim s t f → (o : Order) → Goes s (step s o t) (flatStep s o f)
 unfolding step flatStep

@@ -1,12 +1,13 @@
 -- Memory and tables after a rule was applied: what the line is then, and what is left of the rest. Assumes nothing.
 use Prim.Native.Nat.{ℕ, zero, _%_, _/_, _<_}
-use mathlib.Core.Path.{_≡_, refl, sym, _∙_, ap}
+use mathlib.Core.Path.{_≡_, refl, sym, _∙_, ap, subst}
 use mathlib.Core.Logic.{_≢_}
 use mathlib.Core.Bool.{Bool, true, false, cond, not, false≢true}
 use mathlib.Core.List.{List}
 use lib.ListN.{getD, length, length-set}
 use lib.Seq.{getD-set-same, getD-set-other}
-use borrow.Author.Tests.{eq-eqb, ne-eqb}
+use lib.Dec.{eqb}
+use borrow.Author.Tests.{eq-eqb, ne-eqb, eqb-true, not-true}
 use Rattle.protocol.specs.declared.rules.Rule.{Rule}
 use Rattle.protocol.specs.State.{valid, owner}
 use Rattle.protocol.specs.Rules.{snooped, updates}
@@ -15,10 +16,10 @@ use Rattle.protocol.proofs.States.{owner-valid, not-valid}
 use Rattle.model.specs.declared.shape.Shape.{Shape}
 use Rattle.model.specs.Shape.{indexOf, tagOf, entryOf}
 use Rattle.model.specs.Tables.{Model, stateAt, seen, wordAt, memoryAt, holds, owns}
-use Rattle.model.specs.Step.{store, victim, evictsOwner, byteAfter, wordAfter, applied}
+use Rattle.model.specs.Step.{store, byteAnswered, wordAnswered, victim, evictsOwner, byteAfter, wordAfter, applied}
 use Rattle.protocol.proofs.Kept.{snooped-I, snooped-valid}
 use Rattle.model.proofs.Line.{After}
-use Rattle.model.proofs.Entries.{Sized, putBelow-length, putBelow-other, putBelow-same, entry-lt, entry-index, entry-inj, same-line}
+use Rattle.model.proofs.Entries.{Sized, putBelow-length, put-at, put-apart, not-entry, entry-lt, entry-inj, same-line}
 use Rattle.model.proofs.Entries.{home-index, home-tag, seen-tag, seen-here, same-entry, same-at, holds-one}
 use Rattle.model.proofs.Touched.{Ready, Touched, Leaves, seen-own, seen-other, other-good, other-unowned, tidy-after}
 
@@ -45,45 +46,44 @@ module _ (s : Shape) (t : Model) (i a : ℕ) (ready : Ready s t a) (port : i < s
   abbrev now : Model
   now = applied s t i a r w
 
-  -- The entries at the line's index, and those apart from it.
-  not-entry : (k : ℕ) → k % s .sets ≢ indexOf s a → (p : ℕ) → k ≢ entryOf s a p
-  not-entry k d p e = d (ap (λ x. x % s .sets) e ∙ entry-index s pos a p)
+  -- The port itself takes the line, and no other.
+  abbrev itself : ℕ → Bool
+  itself p = eqb p i
 
   byte-at : (p : ℕ) → p < s .ports → getD (now .states) (entryOf s a p) 0 ≡ byteAfter s t i a r p
   unfolding applied
-  byte-at p h = putBelow-same (entryOf s a) (byteAfter s t i a r) (s .ports) (t .states) p h (entry-inj s pos a p) (rw (sized .states) (entry-lt s pos a p h))
+  byte-at = put-at s pos a (byteAfter s t i a r) (t .states) (sized .states)
 
   word-at : (p : ℕ) → p < s .ports → getD (now .words) (entryOf s a p) 0 ≡ wordAfter s t i a r w p
   unfolding applied
-  word-at p h = putBelow-same (entryOf s a) (wordAfter s t i a r w) (s .ports) (t .words) p h (entry-inj s pos a p) (rw (sized .words) (entry-lt s pos a p h))
+  word-at = put-at s pos a (wordAfter s t i a r w) (t .words) (sized .words)
 
-  touched : Touched s t now i a (r .own) (snooped (r .bus))
-  unfolding applied byteAfter wordAfter wordAt
+  touched : Touched s t now itself a (r .own) (snooped (r .bus))
+  unfolding applied byteAnswered wordAnswered byteAfter wordAfter wordAt
   touched = record {
-    port = port;
-    tags-apart = λ k d. getD-set-other (t .tags) (entryOf s a i) k _ 0 (not-entry k d i);
-    bytes-apart = λ k d. putBelow-other (entryOf s a) (byteAfter s t i a r) (s .ports) (t .states) k (λ q _. not-entry k d q);
-    words-apart = λ k d. putBelow-other (entryOf s a) (wordAfter s t i a r w) (s .ports) (t .words) k (λ q _. not-entry k d q);
-    tag-own = getD-set-same (t .tags) (entryOf s a i) (tagOf s a) 0 (rw (sized .tags) (entry-lt s pos a i port));
-    tag-other = λ p d. getD-set-other (t .tags) (entryOf s a i) (entryOf s a p) _ 0 (λ e. d (entry-inj s pos a p i e));
-    byte-own = byte-at i port ∙ rw (eq-eqb i i refl);
-    byte-holder = λ p h d v. byte-at p h ∙ rw (ne-eqb p i d, v);
-    byte-passed = λ p h d v. byte-at p h ∙ rw (ne-eqb p i d, not-valid (seen s t a p) v);
-    word-passed = λ p h d v. word-at p h ∙ rw (ne-eqb p i d, not-valid (seen s t a p) v);
+    tags-apart = λ k d. getD-set-other (t .tags) (entryOf s a i) k _ 0 (not-entry s pos a k d i);
+    bytes-apart = put-apart s pos a (byteAfter s t i a r) (t .states);
+    words-apart = put-apart s pos a (wordAfter s t i a r w) (t .words);
+    tag-own = λ p h k. rw (eqb-true p i k) (getD-set-same (t .tags) (entryOf s a i) (tagOf s a) 0 (rw (sized .tags) (entry-lt s pos a i port)));
+    tag-other = λ p d. getD-set-other (t .tags) (entryOf s a i) (entryOf s a p) _ 0 (λ e. not-both (eq-eqb p i (entry-inj s pos a p i e)) d);
+    byte-own = λ p h k. byte-at p h ∙ rw k;
+    byte-holder = λ p h d v. byte-at p h ∙ rw (not-true (eqb p i) d, v);
+    byte-passed = λ p h d v. byte-at p h ∙ rw (not-true (eqb p i) d, not-valid (seen s t a p) v);
+    word-passed = λ p h d v. word-at p h ∙ rw (not-true (eqb p i) d, not-valid (seen s t a p) v);
   }
 
   own-after : seen s now a i ≡ r .own
-  own-after = seen-own s pos t now i a (r .own) (snooped (r .bus)) touched
+  own-after = seen-own s pos t now itself a (r .own) (snooped (r .bus)) touched i port (eq-eqb i i refl)
 
   others-after : (p : ℕ) → p < s .ports → p ≢ i → seen s now a p ≡ snooped (r .bus) (seen s t a p)
-  others-after = seen-other s pos t now i a (r .own) (snooped (r .bus)) touched (snooped-I (r .bus))
+  others-after p h d = seen-other s pos t now itself a (r .own) (snooped (r .bus)) touched (snooped-I (r .bus)) p h (ap not (ne-eqb p i d))
 
   word-own : wordAt s now a i ≡ w
   unfolding wordAfter wordAt
   word-own = word-at i port ∙ rw (eq-eqb i i refl)
 
   word-other : (p : ℕ) → p < s .ports → p ≢ i → Is (valid (seen s now a p)) → wordAt s now a p ≡ cond (updates (r .bus)) w (wordAt s t a p)
-  unfolding wordAfter wordAt
+  unfolding wordAnswered wordAfter wordAt
   word-other p h d v =
       let was : Is (holds s t a p) = mp (snooped-valid (r .bus) (seen s t a p)) (rw (others-after p h d) at v) in
       word-at p h ∙ rw (ne-eqb p i d, was)
@@ -181,8 +181,10 @@ module _ (s : Shape) (t : Model) (i a : ℕ) (ready : Ready s t a) (port : i < s
   pub leaves : Leaves s t now a
   leaves = record {
     sized = sized-after;
-    tidy = tidy-after s pos t now i a (r .own) (snooped (r .bus)) touched (ready .line) (ready .tidy);
-    good = λ b other there. other-good s pos t now i a (r .own) (snooped (r .bus)) touched b other (memory-written b other there)
-        (memory-left b other) (memory-far b other);
-    unowned = λ b other. other-unowned s pos t now i a (r .own) (snooped (r .bus)) touched b other;
+    tidy = tidy-after s pos t now itself a (r .own) (snooped (r .bus)) touched (ready .line) (ready .tidy);
+    good = λ b other there. other-good s pos t now itself a (r .own) (snooped (r .bus)) touched b other
+        (λ p h k. subst (λ q. Is (owns s t b q) → indexOf s b ≡ indexOf s a → memoryAt now b ≡ wordAt s t b q) (sym (eqb-true p i k))
+        (memory-written b other there))
+        (λ none. memory-left b other (none i port (eq-eqb i i refl))) (memory-far b other);
+    unowned = λ b other. other-unowned s pos t now itself a (r .own) (snooped (r .bus)) touched b other;
   }

@@ -3,7 +3,7 @@
 use Prim.Native.Nat.{ℕ, _≤_}
 use mathlib.Core.Path.{_≡_, refl}
 use mathlib.Core.Logic.{_≢_}
-use mathlib.Core.Bool.{Bool, true, false, cond}
+use mathlib.Core.Bool.{Bool, true, false, cond, _&&_, not}
 use native.Mathlib.Omega.{arith}
 use lib.Dec.{eqb, leb}
 use Rattle.words.specs.Bools.{bit}
@@ -13,12 +13,13 @@ use Rattle.words.specs.Access.{effectAt}
 use Rattle.protocol.specs.Rules.{flushRule}
 use Rattle.words.proofs.Bools.{by-cond}
 use Rattle.model.specs.declared.shape.Shape.{Shape}
+use Rattle.model.specs.declared.order.Call.{Call}
 use Rattle.model.specs.declared.order.Call.the-variants.{ByPort, Flush, DeviceRead}
 use Rattle.model.specs.declared.order.Decoded.{Decoded}
 use Rattle.model.specs.declared.order.Decoded.the-variants.{Asked, Refused}
-use Rattle.model.specs.Order.{decode}
+use Rattle.model.specs.Order.{decode, lineIn, looks}
 use Rattle.model.specs.Tables.{Model, lentRefusal, columnSound, seen, holds}
-use Rattle.model.specs.Step.{Result, refuse, wordFound, fetches, evictsOwner, accessRule, accessed, flushed, perform, step}
+use Rattle.model.specs.Step.{Result, refuse, wordFound, fetches, evictsOwner, accessRule, accessed, flushed, called, perform, step}
 use Rattle.model.specs.Claims.{FewAccesses, RefusedChangesNothing, FindSays, AuditSays}
 use Rattle.model.specs.declared.found.Found.{Found}
 use Rattle.model.specs.declared.found.Found.the-variants as finds
@@ -45,12 +46,16 @@ unfolding flushed
 flushed-few s t i a = by-cond Few (holds s t a i) _ _ (λ _. (omega arith, omega (arith, bit-le (flushRule (seen s t a i) .stores))))
     (λ _. (omega arith, omega arith))
 
+called-few : (s : Shape) (t : Model) (c : Call) → Few (called s t c)
+unfolding called
+called-few s t (ByPort acc m i a) = accessed-few s t i a acc m
+called-few s t (Flush i a) = flushed-few s t i a
+called-few s t (DeviceRead a) = (omega arith, omega arith)
+
 perform-few : (s : Shape) (t : Model) (d : Decoded) → Few (perform s t d)
 unfolding perform
 perform-few s t (Refused n) = (omega arith, omega arith)
-perform-few s t (Asked (ByPort acc m i a)) = by-cond Few (columnSound s t a) _ _ (λ _. accessed-few s t i a acc m) (λ _. (omega arith, omega arith))
-perform-few s t (Asked (Flush i a)) = by-cond Few (columnSound s t a) _ _ (λ _. flushed-few s t i a) (λ _. (omega arith, omega arith))
-perform-few s t (Asked (DeviceRead a)) = (omega arith, omega arith)
+perform-few s t (Asked c) = by-cond Few (looks c && not (columnSound s t (lineIn c))) _ _ (λ _. (omega arith, omega arith)) (λ _. called-few s t c)
 
 pub few-accesses : FewAccesses
 unfolding step
@@ -68,12 +73,16 @@ accessed-still : (s : Shape) (t : Model) (i a : ℕ) (acc : Access) (m : Mode) �
 unfolding accessed
 accessed-still s t i a acc m n = absurd (n refl)
 
+called-still : (s : Shape) (t : Model) (c : Call) → Still t (called s t c)
+unfolding called
+called-still s t (ByPort acc m i a) = accessed-still s t i a acc m
+called-still s t (Flush i a) = flushed-still s t i a
+called-still s t (DeviceRead a) = λ n. absurd (n refl)
+
 perform-still : (s : Shape) (t : Model) (d : Decoded) → Still t (perform s t d)
 unfolding perform
 perform-still s t (Refused k) = λ n. refl
-perform-still s t (Asked (ByPort acc m i a)) = by-cond (Still t) (columnSound s t a) _ _ (λ _. accessed-still s t i a acc m) (λ _ n. refl)
-perform-still s t (Asked (Flush i a)) = by-cond (Still t) (columnSound s t a) _ _ (λ _. flushed-still s t i a) (λ _ n. refl)
-perform-still s t (Asked (DeviceRead a)) = λ n. absurd (n refl)
+perform-still s t (Asked c) = by-cond (Still t) (looks c && not (columnSound s t (lineIn c))) _ _ (λ _ n. refl) (λ _. called-still s t c)
 
 pub refused-changes-nothing : RefusedChangesNothing
 unfolding step

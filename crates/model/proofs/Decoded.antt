@@ -11,12 +11,12 @@ use Rattle.model.specs.declared.order.Call.{Call}
 use Rattle.model.specs.declared.order.Call.the-variants.{ByPort, Flush, DeviceRead}
 use Rattle.model.specs.declared.order.Decoded.{Decoded}
 use Rattle.model.specs.declared.order.Decoded.the-variants.{Asked, Refused}
-use Rattle.model.specs.Order.{Order, hasPort, checked, callOf, decode}
+use Rattle.model.specs.Order.{Order, hasPort, checked, callOf, decode, lineIn, There}
 
-abbrev pub There : Shape → Call → Type 0
-There s (ByPort acc m i a) = (i < s .ports) × (a < s .lines)
-There s (Flush i a) = (i < s .ports) × (a < s .lines)
-There s (DeviceRead a) = a < s .lines
+pub line-there : (s : Shape) (c : Call) → There s c → lineIn c < s .lines
+line-there s (ByPort acc m i a) h = h .1
+line-there s (Flush i a) h = h .1
+line-there s (DeviceRead a) h = h
 
 abbrev pub Sound : Shape → Decoded → Type 0
 Sound s (Asked c) = There s c

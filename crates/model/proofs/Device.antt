@@ -8,7 +8,7 @@ use lib.ListN.{getD, length, replicate}
 use Rattle.model.specs.declared.shape.Shape.{Shape}
 use Rattle.model.specs.Order.{Order}
 use Rattle.model.specs.Tables.{Model, lentRefusal, memoryAt}
-use Rattle.model.specs.Step.{perform, step}
+use Rattle.model.specs.Step.{called, perform, step}
 use Rattle.model.specs.Fresh.{fresh}
 use Rattle.model.specs.Flat.{Flat, wordIn, markIn, flatStep, flatStart}
 use Rattle.model.specs.Marks.{Event, neither, SetSince, eventsOf, flatRun, modelRun, DeviceGuarantee}
@@ -49,7 +49,7 @@ memory-has s t accepted os a l clear =
     sim .good a l .clean (sim .unmarked a l (ap not mark))
 
 pub device-guarantee : DeviceGuarantee
-unfolding step perform
+unfolding step perform called
 device-guarantee s t accepted os a clear o asks =
     let sim = run-sim s os (fresh s t) (flatStart (t .memory)) (fresh-sim s t accepted) in
     let there : a < s .lines = rw asks at (decode-sound s o) in

@@ -58,6 +58,18 @@ module _ (s : Shape) (pos : zero < s .sets) where
   pub entry-inj : (a p q : ℕ) → entryOf s a p ≡ entryOf s a q → p ≡ q
   entry-inj a p q e = sym (entry-port a p) ∙ ap (λ k. k / s .sets) e ∙ entry-port a q
 
+  -- A table after a value was put for each port at the line's index: there, and apart from it.
+  pub not-entry : (a k : ℕ) → k % s .sets ≢ indexOf s a → (p : ℕ) → k ≢ entryOf s a p
+  not-entry a k d p e = d (ap (λ x. x % s .sets) e ∙ entry-index a p)
+
+  pub put-at : (a : ℕ) (f : ℕ → ℕ) (l : List ℕ) → length l ≡ entries s → (p : ℕ) → p < s .ports
+      → getD (putBelow (entryOf s a) f (s .ports) l) (entryOf s a p) 0 ≡ f p
+  put-at a f l e p h = putBelow-same (entryOf s a) f (s .ports) l p h (entry-inj a p) (rw e (entry-lt a p h))
+
+  pub put-apart : (a : ℕ) (f : ℕ → ℕ) (l : List ℕ) (k : ℕ) → k % s .sets ≢ indexOf s a
+      → getD (putBelow (entryOf s a) f (s .ports) l) k 0 ≡ getD l k 0
+  put-apart a f l k d = putBelow-other (entryOf s a) f (s .ports) l k (λ q _. not-entry a k d q)
+
   pub same-line : (a b : ℕ) → tagOf s a ≡ tagOf s b → indexOf s a ≡ indexOf s b → a ≡ b
   same-line a b e f = sym (div-add-mod' a (s .sets)) ∙ rw (e, f) (div-add-mod' b (s .sets))
 

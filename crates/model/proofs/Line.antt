@@ -17,7 +17,7 @@ use Rattle.protocol.specs.Rules.{rule, snooped, updates}
 use Rattle.words.proofs.Bools.{Is, mp, imp, and-l, and-r, both, contra, by-bool, by-cond}
 use Rattle.protocol.proofs.States.{owner-valid}
 use Rattle.model.specs.Below.{anyBelow, lowest, atOr}
-use Rattle.model.proofs.Below.{any-below, below-none, lowest-gives}
+use Rattle.model.proofs.Below.{any-below, below-none, lowest-cases, lowest-gives}
 use Rattle.protocol.proofs.Kept.{compatible, known, pairs-kept, informed-kept, clean-kept, ownerless-kept, snooped-together, snooped-valid}
 use Rattle.protocol.proofs.Kept.{snooped-I, compatible-I, compatible-sym}
 
@@ -47,13 +47,15 @@ pub record After (n i : ℕ) (r : Rule) (w : ℕ) (st : ℕ → State) (wd : ℕ
   pub stored : Is (r .stores) → mem′ ≡ w
   pub unstored : Is (not (r .stores)) → mem′ ≡ mem
 
+-- The lowest owner's word, or memory's where there is none, is the line's.
+pub word-supplied : (n : ℕ) (st : ℕ → State) (wd : ℕ → ℕ) (mem w : ℕ) → Good n st wd mem w → atOr wd mem (lowest (λ p. owner (st p)) n) ≡ w
+word-supplied n st wd mem w good =
+    lowest-gives (λ p. owner (st p)) wd mem w n (λ p h o. good .words p h (owner-valid (st p) o)) (λ u. good .clean (below-none (λ p. owner (st p)) n u))
+
 module _ (n i : ℕ) (st : ℕ → State) (wd : ℕ → ℕ) (mem w : ℕ) (inside : i < n) (good : Good n st wd mem w) where
   -- A port finds the line's word.
   pub word-found : cond (valid (st i)) (wd i) (atOr wd mem (lowest (λ p. owner (st p)) n)) ≡ w
-  word-found =
-      by-cond (λ x. x ≡ w) (valid (st i)) _ _ (good .words i inside)
-      (λ _. lowest-gives (λ p. owner (st p)) wd mem w n (λ p h o. good .words p h (owner-valid (st p) o))
-      (λ u. good .clean (below-none (λ p. owner (st p)) n u)))
+  word-found = by-cond (λ x. x ≡ w) (valid (st i)) _ _ (good .words i inside) (λ _. word-supplied n st wd mem w good)
 
   module _ (k : Outcome) (m : Mode) where
     abbrev the-rule : Rule
@@ -131,47 +133,32 @@ module _ (n i : ℕ) (st : ℕ → State) (wd : ℕ → ℕ) (mem w : ℕ) (insi
                 (mp (mp (ownerless-kept k m (sharedBy st i n) (ownedBy st n) (st i) (st p)) (knows p h d)) clear))
           ]
 
--- The line after port i gave it up: memory got the word if the port owned it.
-module _ (n i : ℕ) (st : ℕ → State) (wd : ℕ → ℕ) (mem w : ℕ) (good : Good n st wd mem w)
+-- The line after the ports that `gone` names gave it up: memory got the word if one of them owned it.
+module _ (n : ℕ) (gone : ℕ → Bool) (st : ℕ → State) (wd : ℕ → ℕ) (mem w : ℕ) (good : Good n st wd mem w)
     (st′ : ℕ → State) (wd′ : ℕ → ℕ) (mem′ : ℕ)
-    (gone : st′ i ≡ I)
-    (kept : (q : ℕ) → q < n → q ≢ i → st′ q ≡ st q)
-    (kept-word : (q : ℕ) → q < n → q ≢ i → Is (valid (st q)) → wd′ q ≡ wd q)
-    (stored : Is (owner (st i)) → mem′ ≡ w) (unstored : Is (not (owner (st i))) → mem′ ≡ mem) where
+    (given : (p : ℕ) → p < n → Is (gone p) → st′ p ≡ I)
+    (kept : (q : ℕ) → q < n → Is (not (gone q)) → st′ q ≡ st q)
+    (kept-word : (q : ℕ) → q < n → Is (not (gone q)) → Is (valid (st q)) → wd′ q ≡ wd q)
+    (stored : (p : ℕ) → p < n → Is (gone p) → Is (owner (st p)) → mem′ ≡ w)
+    (unstored : ((p : ℕ) → p < n → Is (gone p) → Is (not (owner (st p)))) → mem′ ≡ mem) where
   gone-words : (p : ℕ) → p < n → Is (valid (st′ p)) → wd′ p ≡ w
   gone-words p h v =
-      elim (ℕ-discrete p i) [
-        | yes e ↦ absurd (false≢true (rw (e, gone) at v))
-        | no d ↦ (let was : Is (valid (st p)) = rw (kept p h d) at v in kept-word p h d was ∙ good .words p h was)
-      ]
+      by-bool (gone p) (λ g. absurd (false≢true (rw (given p h g) at v)))
+      (λ k. let was : Is (valid (st p)) = rw (kept p h k) at v in kept-word p h k was ∙ good .words p h was)
 
   gone-pairs : (p q : ℕ) → p < n → q < n → p ≢ q → Is (compatible (st′ p) (st′ q))
   gone-pairs p q hp hq d =
-      elim (ℕ-discrete p i) [
-        | yes e ↦ rw (e, gone) refl
-        | no dp ↦ elim (ℕ-discrete q i) [
-          | yes f ↦ rw (f, gone) (compatible-I (st′ p))
-          | no dq ↦ rw (kept p hp dp, kept q hq dq) (good .pairs p q hp hq d)
-        ]
-      ]
+      by-bool (gone p) (λ g. rw (given p hp g) refl)
+      (λ kp. by-bool (gone q) (λ g. rw (given q hq g) (compatible-I (st′ p))) (λ kq. rw (kept p hp kp, kept q hq kq) (good .pairs p q hp hq d)))
 
+  -- No owner among those that gave it up: as before, or one, whose word memory got.
   gone-clean : Unowned n st′ → mem′ ≡ w
   gone-clean u =
-      by-bool (owner (st i)) stored
-      (λ x. unstored x ∙ good .clean (λ p h. elim (ℕ-discrete p i) [ yes e ↦ rw e x | no d ↦ rw (kept p h d) at (u p h) ]))
+      lowest-cases (λ _. mem′ ≡ w) (λ p. gone p && owner (st p)) n (λ p h x. stored p h (and-l (gone p) _ x) (and-r (gone p) _ x))
+      (λ none.
+      let clean : (p : ℕ) → p < n → Is (gone p) → Is (not (owner (st p))) =
+      λ p h g. rw g at (below-none (λ p. gone p && owner (st p)) n none p h) in
+      unstored clean ∙ good .clean (λ p h. by-bool (gone p) (clean p h) (λ k. rw (kept p h k) at (u p h))))
 
   pub gone-good : Good n st′ wd′ mem′ w
   gone-good = record { words = gone-words; pairs = gone-pairs; clean = gone-clean }
-
--- The line as it was.
-module _ (n : ℕ) (st : ℕ → State) (wd : ℕ → ℕ) (mem w : ℕ) (good : Good n st wd mem w)
-    (st′ : ℕ → State) (wd′ : ℕ → ℕ) (mem′ : ℕ)
-    (kept : (q : ℕ) → q < n → st′ q ≡ st q)
-    (kept-word : (q : ℕ) → q < n → Is (valid (st q)) → wd′ q ≡ wd q)
-    (unstored : mem′ ≡ mem) where
-  pub same-good : Good n st′ wd′ mem′ w
-  same-good = record {
-    words = λ p h v. (let was : Is (valid (st p)) = rw (kept p h) at v in kept-word p h was ∙ good .words p h was);
-    pairs = λ p q hp hq d. rw (kept p hp, kept q hq) (good .pairs p q hp hq d);
-    clean = λ u. unstored ∙ good .clean (λ p h. rw (kept p h) at (u p h));
-  }

@@ -1,6 +1,6 @@
 -- An order: a word and an operand, and what the word says.
-use Prim.Native.Nat.{ℕ, _/_, _%_, _^_}
-use mathlib.Core.Bool.{Bool, cond, _&&_, _||_, not}
+use Prim.Native.Nat.{ℕ, _/_, _%_, _^_, _<_}
+use mathlib.Core.Bool.{Bool, true, false, cond, _&&_, _||_, not}
 use lib.Dec.{eqb, ltb, leb}
 use Rattle.protocol.specs.declared.state.Mode.{Mode}
 use Rattle.protocol.specs.declared.state.Mode.the-variants.{Through, Back}
@@ -55,3 +55,21 @@ decode s o =
     let line = bits (o .word) 16 16 in
     let compare = bits (o .word) 32 32 in
     checked s kind port mask line (callOf kind (modeIn (o .word)) port mask line compare (o .operand))
+
+-- The line of a call.
+abbrev pub lineIn : Call → ℕ
+lineIn (ByPort acc m i a) = a
+lineIn (Flush i a) = a
+lineIn (DeviceRead a) = a
+
+-- The call looks at the ports' entries at its line's index: all but a device read.
+abbrev pub looks : Call → Bool
+looks (ByPort acc m i a) = true
+looks (Flush i a) = true
+looks (DeviceRead a) = false
+
+-- The call names a port below ports, where it names one, and a line below lines.
+abbrev pub There : Shape → Call → Type 0
+There s (ByPort acc m i a) = (i < s .ports) × (a < s .lines)
+There s (Flush i a) = (i < s .ports) × (a < s .lines)
+There s (DeviceRead a) = a < s .lines

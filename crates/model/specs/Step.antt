@@ -1,24 +1,26 @@
 -- The step: one order on main memory and the tables.
 use Prim.Native.Nat.{ℕ, zero, suc, _+_}
-use mathlib.Core.Bool.{Bool, cond, _&&_, _||_, not}
+use mathlib.Core.Bool.{Bool, cond, _&&_, not}
 use mathlib.Core.List.{List}
 use lib.ListN.{getD, set}
 use lib.Dec.{eqb}
 use Rattle.protocol.specs.declared.state.Mode.{Mode}
 use Rattle.words.specs.declared.access.Access.{Access}
 use Rattle.words.specs.declared.access.Effect.{Effect}
+use Rattle.protocol.specs.declared.rules.Bus.{Bus}
 use Rattle.protocol.specs.declared.rules.Rule.{Rule}
 use Rattle.protocol.specs.State.{code, owner}
 use Rattle.words.specs.Access.{effectAt}
 use Rattle.protocol.specs.Rules.{rule, flushRule, snooped, updates}
 use Rattle.words.specs.Bools.{bit}
 use Rattle.model.specs.declared.shape.Shape.{Shape}
+use Rattle.model.specs.declared.order.Call.{Call}
 use Rattle.model.specs.declared.order.Call.the-variants.{ByPort, Flush, DeviceRead}
 use Rattle.model.specs.declared.order.Decoded.{Decoded}
 use Rattle.model.specs.declared.order.Decoded.the-variants.{Asked, Refused}
 use Rattle.model.specs.declared.answer.Answer.{Answer}
 use Rattle.model.specs.Shape.{tagOf, entryOf}
-use Rattle.model.specs.Order.{Order, decode}
+use Rattle.model.specs.Order.{Order, lineIn, looks, decode}
 use Rattle.model.specs.Below.{anyBelow, lowest, atOr}
 use Rattle.model.specs.Tables.{Model, lentRefusal, stateAt, homeAt, seen, wordAt, memoryAt, holds, owns, dirty, columnSound}
 
@@ -49,15 +51,29 @@ unfoldable pub putBelow : (ℕ → ℕ) → (ℕ → ℕ) → ℕ → List ℕ �
 putBelow at f zero l = l
 putBelow at f (suc n) l = set (putBelow at f n l) (at n) (f n)
 
+-- What the ports give and answer at line a.
+module _ (s : Shape) (t : Model) (a : ℕ) where
+  -- The word of the line for one who doesn't hold it: the lowest-numbered owner's, by intervention, else memory's.
+  unfoldable pub wordSupplied : ℕ
+  wordSupplied = atOr (wordAt s t a) (memoryAt t a) (lowest (owns s t a) (s .ports))
+
+  -- The state byte and the word of port p's entry at the line's index, after the ports that `asked` names have answered bus command b by the
+  -- snoop table, where the line's word is then w. Any other port's entry stays.
+  unfoldable pub byteAnswered : (ℕ → Bool) → Bus → ℕ → ℕ
+  byteAnswered asked b p = cond (asked p) (code (snooped b (seen s t a p))) (getD (t .states) (entryOf s a p) 0)
+
+  unfoldable pub wordAnswered : (ℕ → Bool) → Bus → ℕ → ℕ → ℕ
+  wordAnswered asked b w p = cond (asked p && updates b) w (wordAt s t a p)
+
 -- Below, i is the port and a the line.
 module _ (s : Shape) (t : Model) (i a : ℕ) where
   -- Another port holds the line.
   unfoldable pub shared : Bool
   shared = anyBelow (λ p. not (eqb p i) && holds s t a p) (s .ports)
 
-  -- The word that the port finds: its own on a hit, else the lowest-numbered owner's, else memory's.
+  -- The word that the port finds: its own on a hit, else the one that is supplied.
   unfoldable pub wordFound : ℕ
-  wordFound = cond (holds s t a i) (wordAt s t a i) (atOr (wordAt s t a) (memoryAt t a) (lowest (owns s t a) (s .ports)))
+  wordFound = cond (holds s t a i) (wordAt s t a i) (wordSupplied s t a)
 
   -- The word is fetched from memory: a miss, and there is no owner.
   unfoldable pub fetches : Bool
@@ -72,12 +88,12 @@ module _ (s : Shape) (t : Model) (i a : ℕ) where
   evictsOwner = not (holds s t a i) && owner (stateAt t (entryOf s a i))
 
   -- The state byte and the word of port p's entry at the line's index after rule r, where the line's word is then w: the port's own; another
-  -- holder's, by the snoop table; any other entry's stays.
+  -- holder's, as it answers; any other entry's stays.
   unfoldable pub byteAfter : Rule → ℕ → ℕ
-  byteAfter r p = cond (eqb p i) (code (r .own)) (cond (holds s t a p) (code (snooped (r .bus) (seen s t a p))) (getD (t .states) (entryOf s a p) 0))
+  byteAfter r p = cond (eqb p i) (code (r .own)) (byteAnswered s t a (holds s t a) (r .bus) p)
 
   unfoldable pub wordAfter : Rule → ℕ → ℕ → ℕ
-  wordAfter r w p = cond (eqb p i || holds s t a p && updates (r .bus)) w (wordAt s t a p)
+  wordAfter r w p = cond (eqb p i) w (wordAnswered s t a (holds s t a) (r .bus) w p)
 
   -- Memory and tables after rule r, where the line's word is then w. The evicted word is stored first.
   unfoldable pub applied : Rule → ℕ → Model
@@ -105,16 +121,16 @@ module _ (s : Shape) (t : Model) (i a : ℕ) where
       let r = flushRule (seen s t a i) in
       cond (holds s t a i) (result (accepted 0 0 0 (bit (r .stores))) (applied r (wordAt s t a i))) (result (accepted 0 0 0 0) t)
 
--- Refusal 8, where an entry at the line's index is not sound.
-abbrev pub ifSound : Shape → Model → ℕ → Result → Result
-ifSound s t a r = cond (columnSound s t a) r (refuse 8 t)
+-- What a call does, where no entry that it looks at is unsound. A device read fetches memory's word.
+unfoldable pub called : Shape → Model → Call → Result
+called s t (ByPort acc m i a) = accessed s t i a acc m
+called s t (Flush i a) = flushed s t i a
+called s t (DeviceRead a) = result (accepted (memoryAt t a) 0 1 0) t
 
--- A device read fetches memory's word and looks at no entry.
+-- Refusal 8, where the call looks at the entries at its line's index and one of them is not sound.
 unfoldable pub perform : Shape → Model → Decoded → Result
 perform s t (Refused n) = refuse n t
-perform s t (Asked (ByPort acc m i a)) = ifSound s t a (accessed s t i a acc m)
-perform s t (Asked (Flush i a)) = ifSound s t a (flushed s t i a)
-perform s t (Asked (DeviceRead a)) = result (accepted (memoryAt t a) 0 1 0) t
+perform s t (Asked c) = cond (looks c && not (columnSound s t (lineIn c))) (refuse 8 t) (called s t c)
 
 -- Refusals 2 and 3 come first, then those of the order.
 unfoldable pub step : Shape → Order → Model → Result

@@ -14,7 +14,7 @@ use lib.Count.{trailingZeros}
 use borrow.Author.Tests.{not-true, eqb-true}
 use borrow.Rule.Slice.PartMut.{midOf, postOf, putMid, put-same, post-is, set-mid-at}
 use borrow.Rule.Slice.PartAt.{part-to-end}
-use Rattle.words.proofs.Bools.{Is, and-r, by-bool, not-is}
+use Rattle.words.proofs.Bools.{Is, by-bool, not-is}
 use Rattle.protocol.specs.declared.rules.Bus.{Bus}
 use Rattle.protocol.specs.declared.rules.Bus.the-variants.{Quiet}
 use Rattle.protocol.specs.State.{stateOf, orInvalid}
@@ -28,15 +28,15 @@ use Rattle.endian.proofs.Little.{set-numbers}
 use Rattle.model.specs.declared.shape.Shape.{Shape}
 use Rattle.model.specs.Shape.{entries, entryOf}
 use Rattle.model.specs.Tables.{Model, seen, wordAt, holds}
-use Rattle.model.specs.Step.{putBelow}
+use Rattle.model.specs.Step.{putBelow, byteAnswered, wordAnswered}
 use Rattle.model.proofs.Entries.{putBelow-other, entry-lt, entry-inj, seen-tag, seen-here}
 use Rattle.ports.specs.declared.line.Line.{Line}
 use Rattle.ports.specs.declared.bus.Command.{Command}
 use Rattle.ports.specs.Bytes.{tablesIn, Filled}
 use Rattle.ports.specs.Entry.{Room}
 use Rattle.ports.specs.Line.{Placed}
-use Rattle.ports.specs.Masks.{portsFrom}
-use Rattle.ports.specs.Bus.{commandOf, statesAnswered, wordsAnswered, AllStates, other, byteAnswered, wordAnswered, answered}
+use Rattle.ports.specs.Masks.{portsFrom, inMask, OfHolders}
+use Rattle.ports.specs.Bus.{commandOf, statesAnswered, wordsAnswered, AllStates, answered}
 use Rattle.ports.proofs.Bytes.{model-eq, refilled}
 use Rattle.ports.proofs.Places.{some, few, number-is}
 use Rattle.ports.proofs.Puts.{put-id}
@@ -88,7 +88,7 @@ module _ {g h d : List ℕ} (c : Command) (w from index : ℕ) (room : Room g h 
       (λ y. rw (not-true (c .hands) y) (put-same (8 * from) (length d - 8 * from) d)))
 
 -- The tables after the first p ports have answered.
-module _ (s : Shape) (pos : zero < s .sets) (t : Model) (i a : ℕ) (b : Bus) (w : ℕ) where
+module _ (s : Shape) (pos : zero < s .sets) (t : Model) (a : ℕ) (asked : ℕ → Bool) (b : Bus) (w : ℕ) where
   -- The entry of port p is as it was before the first p ports answered.
   still : (p : ℕ) (f : ℕ → ℕ) (xs : List ℕ) → getD (putBelow (entryOf s a) f p xs) (entryOf s a p) 0 ≡ getD xs (entryOf s a p) 0
   still p f xs = putBelow-other (entryOf s a) f p xs (entryOf s a p) (λ q h e. apart q h (entry-inj s pos a p q e))
@@ -96,62 +96,66 @@ module _ (s : Shape) (pos : zero < s .sets) (t : Model) (i a : ℕ) (b : Bus) (w
       apart : (q : ℕ) → q < p → p ≡ q → ⊥
       apart q h e = omega arith
 
-  -- A port that is no other holder answers with what it has.
-  byte-kept : (p : ℕ) → Is (not (other s t i a p)) → byteAnswered s t i a b w p ≡ getD (t .states) (entryOf s a p) 0
+  -- A port that is not asked has what it had.
+  byte-kept : (p : ℕ) → Is (not (asked p)) → byteAnswered s t a asked b p ≡ getD (t .states) (entryOf s a p) 0
   unfolding byteAnswered
-  byte-kept p h = rw (not-true (other s t i a p) h)
+  byte-kept p h = rw (not-true (asked p) h)
 
-  word-kept : (p : ℕ) → Is (not (other s t i a p)) → wordAnswered s t i a b w p ≡ getD (t .words) (entryOf s a p) 0
+  word-kept : (p : ℕ) → Is (not (asked p)) → wordAnswered s t a asked b w p ≡ getD (t .words) (entryOf s a p) 0
   unfolding wordAnswered wordAt
-  word-kept p h = rw (not-true (other s t i a p) h)
+  word-kept p h = rw (not-true (asked p) h)
 
-  skip-one : (p : ℕ) → Is (not (other s t i a p)) → answered s t i a b w (suc p) ≡ answered s t i a b w p
+  skip-one : (p : ℕ) → Is (not (asked p)) → answered s t a asked b w (suc p) ≡ answered s t a asked b w p
   unfolding answered putBelow
   skip-one p h =
       model-eq refl refl
-      (ap (set (putBelow (entryOf s a) (byteAnswered s t i a b w) p (t .states)) (entryOf s a p))
-      (byte-kept p h ∙ sym (still p (byteAnswered s t i a b w) (t .states))) ∙ set-getD _ (entryOf s a p) 0)
-      (ap (set (putBelow (entryOf s a) (wordAnswered s t i a b w) p (t .words)) (entryOf s a p))
-      (word-kept p h ∙ sym (still p (wordAnswered s t i a b w) (t .words))) ∙ set-getD _ (entryOf s a p) 0)
+      (ap (set (putBelow (entryOf s a) (byteAnswered s t a asked b) p (t .states)) (entryOf s a p))
+      (byte-kept p h ∙ sym (still p (byteAnswered s t a asked b) (t .states))) ∙ set-getD _ (entryOf s a p) 0)
+      (ap (set (putBelow (entryOf s a) (wordAnswered s t a asked b w) p (t .words)) (entryOf s a p))
+      (word-kept p h ∙ sym (still p (wordAnswered s t a asked b w) (t .words))) ∙ set-getD _ (entryOf s a p) 0)
 
-  skip : (p z : ℕ) → ((r : ℕ) → r < z → Is (not (other s t i a (p + r)))) → answered s t i a b w (p + z) ≡ answered s t i a b w p
-  skip p zero u = ap (answered s t i a b w) (add-zero p)
-  skip p (suc z) u = ap (answered s t i a b w) (add-suc p z) ∙ skip-one (p + z) (u z (omega arith)) ∙ skip p z (λ r k. u r (omega arith))
+  skip : (p z : ℕ) → ((r : ℕ) → r < z → Is (not (asked (p + r)))) → answered s t a asked b w (p + z) ≡ answered s t a asked b w p
+  skip p zero u = ap (answered s t a asked b w) (add-zero p)
+  skip p (suc z) u = ap (answered s t a asked b w) (add-suc p z) ∙ skip-one (p + z) (u z (omega arith)) ∙ skip p z (λ r k. u r (omega arith))
 
--- A quiet bus changes nothing.
-module _ (s : Shape) (pos : zero < s .sets) (t : Model) (i a w : ℕ) (fine : AllStates s a (t .states)) where
-  quiet-byte : (p : ℕ) → p < s .ports → byteAnswered s t i a Quiet w p ≡ getD (t .states) (entryOf s a p) 0
+  -- A command that hands no word on leaves the words.
+  pub words-kept : updates b ≡ false → putBelow (entryOf s a) (wordAnswered s t a asked b w) (s .ports) (t .words) ≡ t .words
+  unfolding wordAnswered wordAt
+  words-kept e =
+      put-id (entryOf s a) (entry-inj s pos a) (wordAnswered s t a asked b w) (s .ports) (t .words)
+      (λ p _. rw e (never (asked p) (getD (t .words) (entryOf s a p) 0)))
+    where
+      never : (c : Bool) (x : ℕ) → cond (c && false) w x ≡ x
+      never true x = refl
+      never false x = refl
+
+-- A quiet bus changes nothing, if those that are asked hold the line.
+module _ (s : Shape) (pos : zero < s .sets) (t : Model) (a : ℕ) (asked : ℕ → Bool) (hold : (p : ℕ) → p < s .ports → Is (asked p) → Is (holds s t a p)) (w : ℕ)
+    (fine : AllStates s a (t .states)) where
+  quiet-byte : (p : ℕ) → p < s .ports → byteAnswered s t a asked Quiet p ≡ getD (t .states) (entryOf s a p) 0
   unfolding byteAnswered
   quiet-byte p q =
-      by-bool (other s t i a p)
-      (λ h. rw (h, quiet-same (seen s t a p), seen-here s t a p (seen-tag s t a p (and-r (not (eqb p i)) _ h)))
+      by-bool (asked p)
+      (λ h. rw (h, quiet-same (seen s t a p), seen-here s t a p (seen-tag s t a p (hold p q h)))
       (code-stateOf (getD (t .states) (entryOf s a p) 0) (fine p q)))
-      (λ h. rw (not-true (other s t i a p) h))
+      (λ h. rw (not-true (asked p) h))
 
-  quiet-word : (p : ℕ) → p < s .ports → wordAnswered s t i a Quiet w p ≡ getD (t .words) (entryOf s a p) 0
-  unfolding wordAnswered wordAt
-  quiet-word p q = rw quiet-keeps (never (other s t i a p))
-    where
-      never : (b : Bool) → cond (b && false) w (getD (t .words) (entryOf s a p) 0) ≡ getD (t .words) (entryOf s a p) 0
-      never true = refl
-      never false = refl
-
-  pub quiet-answered : {b : Bus} → b ≡ Quiet → t ≡ answered s t i a b w (s .ports)
+  pub quiet-answered : {b : Bus} → b ≡ Quiet → t ≡ answered s t a asked b w (s .ports)
   unfolding answered
   quiet-answered e =
-      rw e (model-eq refl refl (sym (put-id (entryOf s a) (entry-inj s pos a) (byteAnswered s t i a Quiet w) (s .ports) (t .states) quiet-byte))
-      (sym (put-id (entryOf s a) (entry-inj s pos a) (wordAnswered s t i a Quiet w) (s .ports) (t .words) quiet-word)))
+      rw e (model-eq refl refl (sym (put-id (entryOf s a) (entry-inj s pos a) (byteAnswered s t a asked Quiet) (s .ports) (t .states) quiet-byte))
+      (sym (words-kept s pos t a asked Quiet w quiet-keeps)))
 
 -- The ports of the mask, one after the other: rest has those from port p on.
-pub record Telling (l : Line) (bus w i : ℕ) (g₀ h₀ d₀ g h d : List ℕ) (rest p : ℕ) : Type 0 where
+pub record Telling (l : Line) (bus w asked : ℕ) (g₀ h₀ d₀ g h d : List ℕ) (rest p : ℕ) : Type 0 where
   pub filled : Filled (l .shape) g h d
-  pub now : tablesIn (l .shape) g h d ≡ answered (l .shape) (tablesIn (l .shape) g₀ h₀ d₀) i (l .number) (busAt bus) w p
+  pub now : tablesIn (l .shape) g h d ≡ answered (l .shape) (tablesIn (l .shape) g₀ h₀ d₀) (l .number) (inMask asked) (busAt bus) w p
   pub count : ℕ
   pub all : p + count ≡ l .shape .ports
-  pub mask : rest ≡ portsFrom (other (l .shape) (tablesIn (l .shape) g₀ h₀ d₀) i (l .number)) p count
+  pub mask : rest ≡ portsFrom (inMask asked) p count
 
-module _ {l : Line} (v : Placed l) {g₀ h₀ d₀ : List ℕ} (bus w i : ℕ) (f₀ : Filled (l .shape) g₀ h₀ d₀)
-    (fine : AllStates (l .shape) (l .number) h₀) where
+module _ {l : Line} (v : Placed l) {g₀ h₀ d₀ : List ℕ} (bus w asked : ℕ) (f₀ : Filled (l .shape) g₀ h₀ d₀)
+    (fine : AllStates (l .shape) (l .number) h₀) (holders : OfHolders (l .shape) (tablesIn (l .shape) g₀ h₀ d₀) (l .number) asked) where
   abbrev s : Shape
   s = l .shape
 
@@ -162,19 +166,19 @@ module _ {l : Line} (v : Placed l) {g₀ h₀ d₀ : List ℕ} (bus w i : ℕ) (
   t₀ = tablesIn (l .shape) g₀ h₀ d₀
 
   abbrev test : ℕ → Bool
-  test p = other s t₀ i a p
+  test p = inMask asked p
 
   abbrev after : ℕ → Model
-  after p = answered s t₀ i a (busAt bus) w p
+  after p = answered s t₀ a (inMask asked) (busAt bus) w p
 
-  pub telling-none : {others : ℕ} → others ≡ portsFrom test 0 (s .ports) → Telling l bus w i g₀ h₀ d₀ g₀ h₀ d₀ others 0
+  pub telling-none : Telling l bus w asked g₀ h₀ d₀ g₀ h₀ d₀ asked 0
   unfolding answered putBelow
-  telling-none e = record { filled = f₀; now = refl; count = s .ports; all = omega arith; mask = e }
+  telling-none = record { filled = f₀; now = refl; count = s .ports; all = omega arith; mask = holders .ports }
 
-  module _ {g h d : List ℕ} {rest p : ℕ} (u : Telling l bus w i g₀ h₀ d₀ g h d rest p) where
+  module _ {g h d : List ℕ} {rest p : ℕ} (u : Telling l bus w asked g₀ h₀ d₀ g h d rest p) where
     pub telling-done : rest ≡ 0 → tablesIn s g h d ≡ after (s .ports)
     telling-done z =
-        u .now ∙ sym (skip s (some v) t₀ i a (busAt bus) w p (u .count)
+        u .now ∙ sym (skip s (some v) t₀ a (inMask asked) (busAt bus) w p (u .count)
         (λ r k. not-is (test (p + r)) (λ y. absurd (omega (arith, z, u .mask, mask-some test p (u .count) r k y)))))
         ∙ ap after (u .all)
 
@@ -196,22 +200,22 @@ module _ {l : Line} (v : Placed l) {g₀ h₀ d₀ : List ℕ} (bus w i : ℕ) (
       in-k = entry-lt s (some v) a (p + z) next-below
 
       reached : tablesIn s g h d ≡ after (p + z)
-      reached = u .now ∙ sym (skip s (some v) t₀ i a (busAt bus) w p z (first .lower))
+      reached = u .now ∙ sym (skip s (some v) t₀ a (inMask asked) (busAt bus) w p z (first .lower))
 
       held : Is (holds s t₀ a (p + z))
-      held = and-r (not (eqb (p + z) i)) _ (first .passes)
+      held = holders .hold (p + z) next-below (first .passes)
 
       byte-there : getD h (entryOf s a (p + z)) 0 ≡ getD h₀ (entryOf s a (p + z)) 0
       unfolding answered tablesIn
       byte-there =
           ap (λ (t : Model). getD (t .states) (entryOf s a (p + z)) 0) reached
-          ∙ still s (some v) t₀ i a (busAt bus) w (p + z) (byteAnswered s t₀ i a (busAt bus) w) h₀
+          ∙ still s (some v) t₀ a (inMask asked) (busAt bus) w (p + z) (byteAnswered s t₀ a (inMask asked) (busAt bus)) h₀
 
       word-there : getD (numbers 8 (entries s) d) (entryOf s a (p + z)) 0 ≡ getD (numbers 8 (entries s) d₀) (entryOf s a (p + z)) 0
       unfolding answered tablesIn
       word-there =
           ap (λ (t : Model). getD (t .words) (entryOf s a (p + z)) 0) reached
-          ∙ still s (some v) t₀ i a (busAt bus) w (p + z) (wordAnswered s t₀ i a (busAt bus) w) (numbers 8 (entries s) d₀)
+          ∙ still s (some v) t₀ a (inMask asked) (busAt bus) w (p + z) (wordAnswered s t₀ a (inMask asked) (busAt bus) w) (numbers 8 (entries s) d₀)
 
       state-there : seen s t₀ a (p + z) ≡ orInvalid (stateOf (getD h₀ (entryOf s a (p + z)) 0))
       unfolding tablesIn
@@ -225,11 +229,12 @@ module _ {l : Line} (v : Placed l) {g₀ h₀ d₀ : List ℕ} (bus w i : ℕ) (
       })
 
       -- It answers.
-      byte-is : nibbleAt (snoopRow bus) (getD h (entryOf s a (p + z)) 0 % 16) ≡ byteAnswered s t₀ i a (busAt bus) w (p + z)
+      byte-is : nibbleAt (snoopRow bus) (getD h (entryOf s a (p + z)) 0 % 16) ≡ byteAnswered s t₀ a (inMask asked) (busAt bus) (p + z)
       unfolding byteAnswered
       byte-is = rw (byte-there, first .passes, state-there) (snooped-is bus (getD h₀ (entryOf s a (p + z)) 0) (fine (p + z) next-below) refl refl)
 
-      word-is : cond (updates (busAt bus)) w (getD (numbers 8 (entries s) d) (entryOf s a (p + z)) 0) ≡ wordAnswered s t₀ i a (busAt bus) w (p + z)
+      word-is : cond (updates (busAt bus)) w (getD (numbers 8 (entries s) d) (entryOf s a (p + z)) 0)
+          ≡ wordAnswered s t₀ a (inMask asked) (busAt bus) w (p + z)
       unfolding wordAnswered wordAt tablesIn
       word-is = rw (word-there, first .passes)
 
@@ -246,14 +251,14 @@ module _ {l : Line} (v : Placed l) {g₀ h₀ d₀ : List ℕ} (bus w i : ℕ) (
           rw (eg, eh, ed, ec, at-k)
           (model-eq refl (ap (λ (t : Model). t .tags) reached)
           (ap (set h (entryOf s a (p + z))) byte-is ∙ ap (λ (t : Model). set (t .states) (entryOf s a (p + z))
-          (byteAnswered s t₀ i a (busAt bus) w (p + z))) reached)
+          (byteAnswered s t₀ a (inMask asked) (busAt bus) (p + z))) reached)
           (words-put fits (updates (busAt bus)) ∙ ap (set (numbers 8 (entries s) d) (entryOf s a (p + z))) word-is
-          ∙ ap (λ (t : Model). set (t .words) (entryOf s a (p + z)) (wordAnswered s t₀ i a (busAt bus) w (p + z))) reached))
+          ∙ ap (λ (t : Model). set (t .words) (entryOf s a (p + z)) (wordAnswered s t₀ a (inMask asked) (busAt bus) w (p + z))) reached))
 
       pub telling-more : w < 2 ^ 64 → {g' h' d' : List ℕ} → length g' ≡ length g → length h' ≡ length h → length d' ≡ length d
           → {c : Command} → c ≡ commandOf bus
           → (g' ≡ g) × ((h' ≡ statesAnswered c k h) × (d' ≡ wordsAnswered c w k d))
-          → Telling l bus w i g₀ h₀ d₀ g' h' d' (rest / 2 ^ z / 2) (p + z + 1)
+          → Telling l bus w asked g₀ h₀ d₀ g' h' d' (rest / 2 ^ z / 2) (p + z + 1)
       telling-more fits {g'} {h'} {d'} eg eh ed ec e =
           let n : ℕ = u .count - z - 1 in
           let m : rest / 2 ^ z ≡ portsFrom test (p + z) (suc n) = ap (λ (x : ℕ). x / 2 ^ z) (u .mask) ∙ mask-drop test p z (suc n)
@@ -266,7 +271,7 @@ module _ {l : Line} (v : Placed l) {g₀ h₀ d₀ : List ℕ} (bus w i : ℕ) (
             mask = ap (λ (x : ℕ). x / 2) m ∙ mask-half test (p + z) n ∙ ap (λ (x : ℕ). portsFrom test x n) (sym (add-one (p + z)));
           }
 
-  -- Nobody is asked: there is no other holder, or the bus is quiet.
+  -- Nobody is asked: the mask is empty, or the bus is quiet.
   unpacked : AllStates s a (t₀ .states)
   unfolding tablesIn
   unpacked = fine
@@ -276,7 +281,7 @@ module _ {l : Line} (v : Placed l) {g₀ h₀ d₀ : List ℕ} (bus w i : ℕ) (
   quiet true y _ = rw y
   quiet false _ z = absurd (false≢true (sym z))
 
-  pub unasked : {others : ℕ} → others ≡ portsFrom test 0 (s .ports) → (not (eqb others 0) && not (eqb bus 0)) ≡ false → t₀ ≡ after (s .ports)
-  unasked {others} e h =
-      by-bool (eqb others 0) (λ y. telling-done (telling-none e) (eqb-true others 0 y))
-      (λ y. quiet-answered s (some v) t₀ i a w unpacked (quiet (eqb bus 0) refl (rw y at h)))
+  pub unasked : (not (eqb asked 0) && not (eqb bus 0)) ≡ false → t₀ ≡ after (s .ports)
+  unasked h =
+      by-bool (eqb asked 0) (λ y. telling-done telling-none (eqb-true asked 0 y))
+      (λ y. quiet-answered s (some v) t₀ a (inMask asked) (holders .hold) w unpacked (quiet (eqb bus 0) refl (rw y at h)))

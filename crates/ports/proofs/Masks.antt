@@ -13,7 +13,9 @@ use Rattle.words.specs.Bools.{bit}
 use Rattle.words.proofs.Bools.{Is, by-bool, not-both}
 use Rattle.model.specs.Below.{anyBelow, none, number, orElse, lowest, atOr}
 use Rattle.model.proofs.Below.{any-below, below-none, lowest-cases}
-use Rattle.ports.specs.Masks.{portsFrom}
+use Rattle.model.specs.declared.shape.Shape.{Shape}
+use Rattle.model.specs.Tables.{Model, holds}
+use Rattle.ports.specs.Masks.{portsFrom, inMask, OfHolders}
 
 -- The lowest bit, and the rest.
 low : (b : Bool) (x : ℕ) → (bit b + 2 * x) % 2 ≡ bit b
@@ -152,6 +154,18 @@ mask-without f a (suc n) zero i e l =
 mask-without f a (suc n) (suc j) i e l =
     let d = ne-eqb a i (λ y. absurd (omega arith)) in
     rw (mask-without f (suc a) n j i (omega arith) (omega arith), d, pow-suc 2 j) (omega arith)
+
+-- A mask of the ports that pass a test has those, and no bit beside theirs.
+pub in-mask : (f : ℕ → Bool) (n : ℕ) {m : ℕ} → m ≡ portsFrom f 0 n → (p : ℕ) → p < n → inMask m p ≡ f p
+unfolding inMask
+in-mask f n em p h = rw (em, mask-bit f n p h) (bit-is (f p))
+
+pub of-holders : (s : Shape) (t : Model) (a : ℕ) (f : ℕ → Bool) → ((p : ℕ) → Is (f p) → Is (holds s t a p)) → {m : ℕ}
+    → m ≡ portsFrom f 0 (s .ports) → OfHolders s t a m
+of-holders s t a f hold {m} em = record {
+  ports = em ∙ mask-ext f (inMask m) 0 (s .ports) (λ q h. sym (subst (λ (x : ℕ). inMask m x ≡ f x) (sym (zero-add q)) (in-mask f (s .ports) em q h)));
+  hold = λ p h x. hold p (sym (in-mask f (s .ports) em p h) ∙ x);
+}
 
 -- What the lowest port in a mask gives, or x where the mask is empty.
 module _ (f : ℕ → Bool) (n : ℕ) {m : ℕ} (em : m ≡ portsFrom f 0 n) where

@@ -26,7 +26,7 @@ use Rattle.model.proofs.Bounds.{limit-is}
 use Rattle.model.proofs.Entries.{entry-index}
 use Rattle.ports.specs.declared.line.Line.{Line}
 use Rattle.ports.specs.declared.survey.Masks.{Masks}
-use Rattle.ports.specs.Bytes.{tablesIn}
+use Rattle.ports.specs.Bytes.{Bytes, modelIn, tablesIn}
 use Rattle.ports.specs.Line.{Placed}
 use Rattle.ports.specs.Masks.{portsFrom, lanes, saysOf, lookLanes, masksOf}
 use Rattle.ports.specs.Bus.{AllStates}
@@ -260,3 +260,9 @@ module _ (s : Shape) (t : Model) (a : ℕ) {x : Masks} (e : x ≡ masksOf s t a)
   pub masks-states : Is (x .sound) → AllStates s a (t .states)
   unfolding columnSound sound
   masks-states u p q = and-l (isState (stateOf (getD (t .states) (entryOf s a p) 0))) _ (below-all (soundBy s t a) (s .ports) (sym masks-sound ∙ u) p q)
+
+-- That every entry is sound, in the model with its memory.
+pub masks-column : (s : Shape) (b : Bytes) (a : ℕ) {x : Masks} → x ≡ masksOf s (tablesIn s (b .tags) (b .states) (b .words)) a
+    → x .sound ≡ columnSound s (modelIn s b) a
+unfolding columnSound sound tablesIn modelIn
+masks-column s b a e = masks-sound s _ a e

@@ -1,6 +1,7 @@
 -- Sets of ports as numbers, a bit for each port; and what the ports say of a line, in that form.
-use Prim.Native.Nat.{ℕ, zero, suc, _+_, _*_}
-use mathlib.Core.Bool.{Bool, cond, _&&_, _||_, not}
+use Prim.Native.Nat.{ℕ, zero, suc, _+_, _*_, _/_, _%_, _^_, _<_}
+use mathlib.Core.Path.{_≡_}
+use mathlib.Core.Bool.{Bool, true, cond, _&&_, _||_, not}
 use lib.Dec.{eqb, ltb}
 use Rattle.words.specs.Bools.{bit}
 use Rattle.protocol.specs.declared.state.State.the-variants.{I}
@@ -14,6 +15,15 @@ use Rattle.ports.specs.declared.survey.Masks.{Masks}
 unfoldable pub portsFrom : (ℕ → Bool) → ℕ → ℕ → ℕ
 portsFrom f a zero = 0
 portsFrom f a (suc n) = bit (f a) + 2 * portsFrom f (suc a) n
+
+-- Port p is in a mask.
+unfoldable pub inMask : ℕ → ℕ → Bool
+inMask m p = eqb (m / 2 ^ p % 2) 1
+
+-- The mask has ports alone that are there and hold line a.
+pub record OfHolders (s : Shape) (t : Model) (a m : ℕ) : Type 0 where
+  pub ports : m ≡ portsFrom (inMask m) 0 (s .ports)
+  pub hold : (p : ℕ) → p < s .ports → inMask m p ≡ true → holds s t a p ≡ true
 
 -- Three masks in one number, 16 bits for each.
 abbrev pub lanes : ℕ → ℕ → ℕ → ℕ
@@ -29,6 +39,10 @@ saysOf here near b =
 -- What an entry with tag t and byte b says of the line at a place.
 unfoldable pub lookLanes : Place → ℕ → ℕ → ℕ
 lookLanes x t b = saysOf (eqb t (x .tag)) (ltb t (x .limit)) b
+
+-- What is taken for said where no port is asked.
+abbrev pub unasked : Masks
+unasked = record { sound = true; holders = 0; owners = 0 }
 
 -- What the ports say of line a: that every entry is sound, the ports that hold the line, the ports that own it.
 unfoldable pub masksOf : Shape → Model → ℕ → Masks

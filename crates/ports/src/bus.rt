@@ -1,4 +1,4 @@
-// The bus: each other holder of a line answers a command from its own part of the three tables.
+// The bus: each holder of a line that is asked answers a command from its own part of the three tables.
 use crate::entry;
 use crate::line::Line;
 use crate::mask;
@@ -9,8 +9,8 @@ ghost use Rattle.protocol.specs.Coded.{busAt};
 ghost use Rattle.ports.specs.Bytes.{tablesIn, Filled};
 ghost use Rattle.ports.specs.Entry.{Room};
 ghost use Rattle.ports.specs.Line.{Placed};
-ghost use Rattle.ports.specs.Masks.{portsFrom};
-ghost use Rattle.ports.specs.Bus.{commandOf, statesAnswered, wordsAnswered, other, AllStates, answered};
+ghost use Rattle.ports.specs.Masks.{inMask, OfHolders};
+ghost use Rattle.ports.specs.Bus.{commandOf, statesAnswered, wordsAnswered, AllStates, answered};
 
 // A bus command as the ports hear it: its row of the snoop table, and whether it hands the new word to the holders.
 pub struct Command {
@@ -70,30 +70,28 @@ fn answer_from(
     );
 }
 
-// Every port of the mask answers command number bus; the mask has the holders but i.
+// Every port of the mask answers command number bus.
 fn broadcast(
     tags: &mut [u8],
     states: &mut [u8],
     words: &mut [u8],
     line: Line,
-    i: usize,
-    others: u64,
+    asked: u64,
     bus: u8,
     w: u64,
 )
     requires { ⌜ Filled (line .shape) (now tags) (now states) (now words) ⌝ }
     requires { ⌜ Placed line ⌝ }
     requires { ⌜ AllStates (line .shape) (line .number) (now states) ⌝ }
-    requires { ⌜ others ≡ portsFrom (other (line .shape) (tablesIn (line .shape) (now tags) (now states) (now words)) i (line .number)) 0
-        (line .shape .ports) ⌝ }
+    requires { ⌜ OfHolders (line .shape) (tablesIn (line .shape) (now tags) (now states) (now words)) (line .number) asked ⌝ }
     requires { ⌜ bus < 7 ⌝ }
     ensures { λ r. ⌜ tablesIn (line .shape) (now (tags .exit)) (now (states .exit)) (now (words .exit))
-        ≡ answered (line .shape) (tablesIn (line .shape) (now (tags .entry)) (now (states .entry)) (now (words .entry))) i (line .number)
-        (busAt bus) w (line .shape .ports) ⌝ }
+        ≡ answered (line .shape) (tablesIn (line .shape) (now (tags .entry)) (now (states .entry)) (now (words .entry))) (line .number)
+        (inMask asked) (busAt bus) w (line .shape .ports) ⌝ }
 {
     let c = command_of(bus);
     let sets = line.shape.sets;
-    let mut rest = others;
+    let mut rest = asked;
     let mut p = 0usize;
     while rest != 0 {
         let skipped = mask::lowest_port(rest);
@@ -104,28 +102,26 @@ fn broadcast(
     }
 }
 
-// Sends a command, unless there is nobody to hear it or nothing to say.
+// Sends a command to the ports of a mask, unless there is nobody to hear it or nothing to say.
 pub fn ask(
     tags: &mut [u8],
     states: &mut [u8],
     words: &mut [u8],
     line: Line,
-    i: usize,
-    others: u64,
+    asked: u64,
     bus: u8,
     w: u64,
 )
     requires { ⌜ Filled (line .shape) (now tags) (now states) (now words) ⌝ }
     requires { ⌜ Placed line ⌝ }
     requires { ⌜ AllStates (line .shape) (line .number) (now states) ⌝ }
-    requires { ⌜ others ≡ portsFrom (other (line .shape) (tablesIn (line .shape) (now tags) (now states) (now words)) i (line .number)) 0
-        (line .shape .ports) ⌝ }
+    requires { ⌜ OfHolders (line .shape) (tablesIn (line .shape) (now tags) (now states) (now words)) (line .number) asked ⌝ }
     requires { ⌜ bus < 7 ⌝ }
     ensures { λ r. ⌜ tablesIn (line .shape) (now (tags .exit)) (now (states .exit)) (now (words .exit))
-        ≡ answered (line .shape) (tablesIn (line .shape) (now (tags .entry)) (now (states .entry)) (now (words .entry))) i (line .number)
-        (busAt bus) w (line .shape .ports) ⌝ }
+        ≡ answered (line .shape) (tablesIn (line .shape) (now (tags .entry)) (now (states .entry)) (now (words .entry))) (line .number)
+        (inMask asked) (busAt bus) w (line .shape .ports) ⌝ }
 {
-    if (others != 0) & (bus != 0) {
-        broadcast(tags, states, words, line, i, others, bus, w);
+    if (asked != 0) & (bus != 0) {
+        broadcast(tags, states, words, line, asked, bus, w);
     }
 }

@@ -5,13 +5,14 @@ use model::shape::Place;
 use protocol::state;
 use words::choose;
 ghost use mathlib.Core.Path.{_≡_};
+ghost use mathlib.Core.Bool.{cond};
 ghost use Prim.Native.Nat.{_<_};
 ghost use lib.ListN.{getD};
 ghost use Rattle.endian.specs.Little.{numbers};
 ghost use Rattle.model.specs.Shape.{entries};
 ghost use Rattle.ports.specs.Bytes.{tablesIn, Filled};
 ghost use Rattle.ports.specs.Line.{Placed};
-ghost use Rattle.ports.specs.Masks.{lookLanes, masksOf};
+ghost use Rattle.ports.specs.Masks.{lookLanes, unasked, masksOf};
 
 // What the ports say of a line: that every entry is sound, the ports that hold the line, and those that own it. Bit p is port p's.
 pub struct Masks {
@@ -48,7 +49,7 @@ fn entry_lanes(tags: &[u8], states: &[u8], words: &[u8], line: Line, k: usize) -
 }
 
 // Asks every port, in one pass, the last one first. No word is read: the words are lent so that what is said is said of the whole tables.
-pub fn survey_ports(tags: &[u8], states: &[u8], words: &[u8], line: Line) -> Masks
+fn survey_ports(tags: &[u8], states: &[u8], words: &[u8], line: Line) -> Masks
     requires { ⌜ Filled (line .shape) (now tags) (now states) (now words) ⌝ }
     requires { ⌜ Placed line ⌝ }
     ensures { λ r. ⌜ r ≡ masksOf (line .shape) (tablesIn (line .shape) (now (tags .entry)) (now (states .entry)) (now (words .entry)))
@@ -68,5 +69,22 @@ pub fn survey_ports(tags: &[u8], states: &[u8], words: &[u8], line: Line) -> Mas
         sound: sum < 4294967296,
         holders: sum % 65536,
         owners: sum / 65536 % 65536,
+    }
+}
+
+// Asks the ports if somebody wants to know.
+pub fn survey_if(tags: &[u8], states: &[u8], words: &[u8], line: Line, on: bool) -> Masks
+    requires { ⌜ Filled (line .shape) (now tags) (now states) (now words) ⌝ }
+    requires { ⌜ Placed line ⌝ }
+    ensures { λ r. ⌜ r ≡ cond on (masksOf (line .shape) (tablesIn (line .shape) (now (tags .entry)) (now (states .entry)) (now (words .entry)))
+        (line .number)) unasked ⌝ }
+{
+    if on {
+        return survey_ports(tags, states, words, line);
+    }
+    Masks {
+        sound: true,
+        holders: 0,
+        owners: 0,
     }
 }

@@ -1,2 +1,3 @@
 -- Laws of one order that several proofs cite.
 pub mod Orders
+pub mod Lines

@@ -4,15 +4,14 @@ use mathlib.Core.Path.{_≡_, _∙_}
 use borrow.Author.Tests.{eq-eqb}
 use Rattle.model.specs.declared.shape.Shape.{Shape}
 use Rattle.model.specs.declared.order.Call.{Call}
-use Rattle.model.specs.declared.order.Call.the-variants.{ByPort, Flush, DeviceRead}
 use Rattle.model.specs.declared.order.Decoded.{Decoded}
 use Rattle.model.specs.declared.order.Decoded.the-variants.{Asked, Refused}
 use Rattle.model.specs.declared.answer.Answer.{Answer}
-use Rattle.model.specs.Order.{Order, decode}
+use Rattle.model.specs.Order.{Order, decode, There}
 use Rattle.model.specs.Tables.{Model, lentRefusal}
 use Rattle.model.specs.Step.{Result, result, refused, perform, step}
-use Rattle.model.proofs.Decoded.{Sound, decode-sound}
-use Rattle.decode.specs.Order.{There, refusalIn}
+use Rattle.model.proofs.Decoded.{decode-sound}
+use Rattle.decode.specs.Order.{refusalIn}
 
 module _ (s : Shape) (o : Order) (t : Model) where
   pub step-refused : lentRefusal s t ≡ 0 → {d : Decoded} {n k : ℕ} → d ≡ decode s o → d ≡ Refused n → k ≡ refusalIn d
@@ -26,9 +25,4 @@ module _ (s : Shape) (o : Order) (t : Model) where
   step-asked h e f g = g ∙ rw (eq-eqb (lentRefusal s t) 0 h, ← e, f)
 
 pub asked-there : (s : Shape) (o : Order) {d : Decoded} {c : Call} → d ≡ decode s o → d ≡ Asked c → There s c
-asked-there s o {c = c} e f = there c (rw (← e, f) at (decode-sound s o))
-  where
-    there : (c : Call) → Sound s (Asked c) → There s c
-    there (ByPort acc m i a) h = h
-    there (Flush i a) h = h
-    there (DeviceRead a) h = h
+asked-there s o e f = rw (← e, f) at (decode-sound s o)

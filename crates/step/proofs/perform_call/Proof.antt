@@ -1,52 +1,57 @@
--- The call is performed, by its case. Assumes nothing.
+-- One survey where the call looks at entries; then refusal 8, or the call. Assumes nothing.
 use borrow.Author.Needs.{needs}
-use mathlib.Core.Path.{refl}
-use Rattle.model.specs.Step.{perform}
-use Rattle.ports.proofs.Bytes.{in-memory, memory-word}
+use Rattle.ports.specs.Bytes.{Bytes, bytes}
+use Rattle.step.proofs.Lines.{line-ready, survey-ready, unsound-refused, call-ready, call-done}
 use Rattle.step.proofs.perform_call.Statement.{statement}
 use Rattle.step.proofs.perform_call.Tie as tie
 
-access-line-requires : tie.Need-access-line-requires
-access-line-requires c κs =
-    let after-call : tie.After-call = search in let start : tie.Start = search in
-    (start .pre .0, rw (after-call .call .given .1) at (start .pre .1))
+-- Points that lie too far back for one search, each seen from a later one; and the bytes as they are lent.
+abbrev start-of-line-in : tie.After-line-in → tie.Start
+start-of-line-in c = search
 
-flush-line-requires : tie.Need-flush-line-requires
-flush-line-requires c κs =
-    let after-call2 : tie.After-call2 = search in let start : tie.Start = search in
-    (start .pre .0, rw (after-call2 .call2 .given .1) at (start .pre .1))
+abbrev line-in-of-survey-if : tie.After-survey-if → tie.After-line-in
+line-in-of-survey-if c = search
 
-device-read-requires : tie.Need-device-read-requires
-device-read-requires c κs =
-    let after-call3 : tie.After-call3 = search in let start : tie.Start = search in
-    in-memory (start .pre .0) (rw (after-call3 .call3 .given .1) at (start .pre .1))
+abbrev lent : tie.Start → Bytes
+lent c = let x = c .args in bytes (x .memory .now) (x .tags .now) (x .states .now) (x .words .now)
+
+line-of-requires : tie.Need-line-of-requires
+line-of-requires c κs = let start = start-of-line-in c in line-ready _ (start .args .call) (c .line-in .ensures) (lent start) (start .pre .0) (start .pre .1)
+
+survey-if-requires : tie.Need-survey-if-requires
+survey-if-requires c κs =
+    let after-line-of : tie.After-line-of = search in let after-line-in : tie.After-line-in = search in
+    let start = start-of-line-in after-line-in in
+    survey-ready _ (start .args .call) (after-line-in .line-in .ensures) (lent start) (start .pre .0) (start .pre .1) (after-line-of .line-of .ensures)
 
 returns : tie.Need-returns
-unfolding perform
 returns c =
-    let after-access-line : tie.After-access-line = search in let after-call : tie.After-call = search in
-    rw (after-call .call .given .1) (after-access-line .access-line .ensures)
+    let then-1 : tie.Then1 = search in let after-survey-if : tie.After-survey-if = search in let after-looks : tie.After-looks = search in
+    let after-line-of : tie.After-line-of = search in let after-line-in = line-in-of-survey-if after-survey-if in
+    let start = start-of-line-in after-line-in in
+    unsound-refused _ (start .args .call) (after-line-in .line-in .ensures) (lent start) (start .pre .0) (start .pre .1) (after-line-of .line-of .ensures)
+    (after-looks .looks .ensures) (after-survey-if .survey-if .ensures) (c .refuse .ensures) (then-1 .if1 .taken)
+
+call-on-line-requires : tie.Need-call-on-line-requires
+call-on-line-requires c κs =
+    let else-1 : tie.Else1 = search in let after-survey-if : tie.After-survey-if = search in let after-looks : tie.After-looks = search in
+    let after-line-of : tie.After-line-of = search in let after-line-in = line-in-of-survey-if after-survey-if in
+    let start = start-of-line-in after-line-in in
+    call-ready _ (start .args .call) (after-line-in .line-in .ensures) (lent start) (start .pre .0) (start .pre .1) (after-line-of .line-of .ensures)
+    (after-looks .looks .ensures) (after-survey-if .survey-if .ensures) (else-1 .if1 .left)
 
 returns-2 : tie.Need-returns-2
-unfolding perform
 returns-2 c =
-    let after-flush-line : tie.After-flush-line = search in let after-call2 : tie.After-call2 = search in
-    rw (after-call2 .call2 .given .1) (after-flush-line .flush-line .ensures)
-
-returns-3 : tie.Need-returns-3
-unfolding perform
-returns-3 c =
-    let after-call3 : tie.After-call3 = search in let start : tie.Start = search in
-    rw (
-      after-call3 .call3 .given .1,
-      c .device-read .ensures,
-      ← memory-word (start .pre .0) (rw (after-call3 .call3 .given .1) at (start .pre .1))
-          refl,
-    )
+    let after-call-on-line : tie.After-call-on-line = search in let else-1 : tie.Else1 = search in
+    let after-survey-if : tie.After-survey-if = search in let after-looks : tie.After-looks = search in
+    let after-line-of : tie.After-line-of = search in let after-line-in = line-in-of-survey-if after-survey-if in
+    let start = start-of-line-in after-line-in in
+    call-done _ (start .args .call) (after-line-in .line-in .ensures) (lent start) (start .pre .0) (start .pre .1) (after-line-of .line-of .ensures)
+    (after-looks .looks .ensures) (after-survey-if .survey-if .ensures) (else-1 .if1 .left) _ (after-call-on-line .call-on-line .ensures)
 
 pub perform-call-spec : {M : Type 1} → statement M
 perform-call-spec =
     tie.close
-    (tie.spec (λ c. search needs) access-line-requires (λ c. search needs) flush-line-requires (λ c. search needs) device-read-requires
-    (λ c. search needs) (λ c. search needs) (λ c. search needs) (λ c. search needs) returns (λ c. search needs) (λ c. search needs)
-    (λ c. search needs) (λ c. search needs) returns-2 (λ c. search needs) returns-3)
+    (tie.spec (λ c κs. search needs) line-of-requires (λ c κs. search needs) survey-if-requires (λ c κs. search needs) (λ c. search needs)
+    (λ c. search needs) (λ c. search needs) returns call-on-line-requires (λ c. search needs) (λ c. search needs) (λ c. search needs)
+    (λ c. search needs) returns-2)

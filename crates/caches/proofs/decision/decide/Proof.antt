@@ -3,7 +3,6 @@ use borrow.Author.Needs.{needs}
 use Prim.Native.Nat.{_/_, _%_, _^_}
 use lib.Dec.{eqb}
 use native.Mathlib.Omega.{arith}
-use Rattle.ports.proofs.Bytes.{in-memory, memory-word}
 use Rattle.ports.proofs.Places.{few, there, small, sets-small}
 use Rattle.ports.proofs.Masks.{bit-away}
 use Rattle.ports.proofs.Surveys.{masks-holders, masks-owners, masks-hit, masks-dirty}
@@ -45,13 +44,10 @@ sub-others c =
     let start : tie.Start = search in
     omega (arith, bit-away _ _ _ (masks-holders _ _ _ (start .pre .1 .1 .1 .0)) (start .pre .1 .1 .0) (few (start .pre .1 .0)) .0)
 
-word-at-requires : tie.Need-word-at-requires
-word-at-requires c κs = let start : tie.Start = search in in-memory (start .pre .0) (start .pre .1 .0 .below)
-
 find-word-requires : tie.Need-find-word-requires
 find-word-requires c κs =
     let start : tie.Start = search in
-    (start .pre .0 .filled, (start .pre .1 .0, masks-owners _ _ _ (start .pre .1 .1 .1 .0)))
+    (start .pre .0, (start .pre .1 .0, masks-owners _ _ _ (start .pre .1 .1 .1 .0)))
 
 -- The byte chosen, the own entry's or 0, is the code of a state.
 own-rule-requires : tie.Need-own-rule-requires
@@ -71,18 +67,17 @@ returns c =
     let after-byte-state : tie.After-byte-state = search in let after-own-rule : tie.After-own-rule = search in
     let after-choose-byte : tie.After-choose-byte = search in let after-effect-at : tie.After-effect-at = search in
     let after-find-word = find-word-of-own-rule after-own-rule in let after-entry-at = entry-at-of-find-word after-find-word in
-    let after-word-at : tie.After-word-at = search in
     let start = start-of-entry-at after-entry-at in
     let p = start .pre .1 .1 .1 .0 in
     decide-done (start .pre .1 .0) _ _ _ _ (start .pre .1 .1 .0) (after-entry-at .entry-at .ensures) (after-byte-state .byte-state .ensures)
     (after-is-owner .is-owner .ensures) _ _ _ (masks-hit _ _ _ p _ (start .pre .1 .1 .0))
     (bit-away _ _ _ (masks-holders _ _ _ p) (start .pre .1 .1 .0) (few (start .pre .1 .0)) .1) (masks-dirty _ _ _ p)
-    (memory-word (start .pre .0) (start .pre .1 .0 .below) (after-word-at .word-at .ensures)) (after-find-word .find-word .ensures)
+    (after-find-word .find-word .ensures)
     (after-effect-at .effect-at .ensures) (after-choose-byte .choose-byte .ensures) (after-own-rule .own-rule .ensures)
     (after-home-of .home-of .ensures) (c .accept .ensures)
 
 pub decide-spec : {M : Type 1} → statement M
 decide-spec =
     tie.close
-    (tie.spec mul-entry-at add-entry-at entry-at-requires shr-own shl-others sub-others word-at-requires find-word-requires (λ c κs. search needs)
+    (tie.spec mul-entry-at add-entry-at entry-at-requires shr-own shl-others sub-others find-word-requires (λ c κs. search needs)
     (λ c κs. search needs) own-rule-requires (λ c κs. search needs) (λ c κs. search needs) home-of-requires (λ c κs. search needs) returns)

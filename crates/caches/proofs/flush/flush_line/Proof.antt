@@ -1,35 +1,57 @@
--- One survey; then refusal 8, or the flush. Assumes nothing.
+-- The entry becomes I where the port holds the line, and an owner's word is stored. Assumes nothing.
 use borrow.Author.Needs.{needs}
-use Rattle.model.specs.Step.{flushed}
-use Rattle.ports.specs.Bytes.{bytes}
-use Rattle.caches.proofs.Lines.{line-ready, order-ready, unsound-refused, sound-done}
+use native.Mathlib.Omega.{arith}
+use Rattle.ports.specs.Bytes.{tablesIn}
+use Rattle.ports.proofs.Places.{few, there, small, room}
+use Rattle.ports.proofs.Surveys.{masks-hit, masks-own, masks-states}
+use Rattle.caches.proofs.Supplied.{entry-word}
+use Rattle.caches.proofs.Flushes.{flush-done}
 use Rattle.caches.proofs.flush.flush_line.Statement.{statement}
 use Rattle.caches.proofs.flush.flush_line.Tie as tie
 
-survey-ports-requires : tie.Need-survey-ports-requires
-survey-ports-requires c κs =
-    let after-line-of : tie.After-line-of = search in let start : tie.Start = search in
-    line-ready _ _ (after-line-of .line-of .ensures) (start .pre .0) (start .pre .1)
+-- The start, seen from a call that lies far behind it.
+abbrev start-of-word-at : tie.After-word-at → tie.Start
+start-of-word-at c = search
+
+shr-held : tie.Need-shr-held
+shr-held c = let start : tie.Start = search in omega (arith, start .pre .1 .1 .0, few (start .pre .1 .0))
+
+shr-stores : tie.Need-shr-stores
+shr-stores c = let start : tie.Start = search in omega (arith, start .pre .1 .1 .0, few (start .pre .1 .0))
+
+mul-at : tie.Need-mul-at
+mul-at c = let start : tie.Start = search in omega (arith, small (start .pre .1 .0) (start .args .i) (start .pre .1 .1 .0))
+
+add-at : tie.Need-add-at
+add-at c = let start : tie.Start = search in omega (arith, small (start .pre .1 .0) (start .args .i) (start .pre .1 .1 .0))
+
+word-at-requires : tie.Need-word-at-requires
+word-at-requires c κs =
+    let start : tie.Start = search in
+    room (start .pre .0 .filled) (there (start .pre .1 .0) (start .args .i) (start .pre .1 .1 .0)) .in-words
+
+empty-if-requires : tie.Need-empty-if-requires
+empty-if-requires c κs =
+    let start : tie.Start = search in
+    room (start .pre .0 .filled) (there (start .pre .1 .0) (start .args .i) (start .pre .1 .1 .0)) .in-states
+
+store-if-requires : tie.Need-store-if-requires
+store-if-requires c κs = let start : tie.Start = search in (start .pre .0 .memory-fits, λ _. start .pre .1 .0 .below)
 
 returns : tie.Need-returns
-returns c = search unsound-refused
-
-flush-sound-requires : tie.Need-flush-sound-requires
-flush-sound-requires c κs =
-    let else-1 : tie.Else1 = search in let after-survey-ports : tie.After-survey-ports = search in
-    let after-line-of : tie.After-line-of = search in let start : tie.Start = search in
-    order-ready _ _ (after-line-of .line-of .ensures) (start .pre .0) (start .pre .1) (after-survey-ports .survey-ports .ensures) (else-1 .if1 .left)
-
-returns-2 : tie.Need-returns-2
-returns-2 c =
-    let after-flush-sound : tie.After-flush-sound = search in let else-1 : tie.Else1 = search in
-    let after-survey-ports : tie.After-survey-ports = search in let after-line-of : tie.After-line-of = search in let start : tie.Start = search in
-    let x = start .args in
-    sound-done _ _ (after-line-of .line-of .ensures) (bytes (x .memory .now) (x .tags .now) (x .states .now) (x .words .now))
-    (after-survey-ports .survey-ports .ensures) (λ s t a. flushed s t (x .i) a) _ (else-1 .if1 .left) (after-flush-sound .flush-sound .ensures)
+unfolding tablesIn
+returns c =
+    let after-store-if : tie.After-store-if = search in let after-empty-if : tie.After-empty-if = search in
+    let after-word-at : tie.After-word-at = search in let start = start-of-word-at after-word-at in
+    let v = start .pre .1 .0 in
+    let port = start .pre .1 .1 .0 in
+    let said = start .pre .1 .1 .1 in
+    flush-done v _ _ _ _ _ port (masks-states _ _ _ (said .0) (said .1)) _ _ (masks-hit _ _ _ (said .0) _ port) (masks-own _ _ _ (said .0) _ port)
+    (entry-word v (start .pre .0 .filled) _ port (after-word-at .word-at .ensures)) (after-empty-if .empty-if .ensures)
+    (after-store-if .store-if .ensures) (c .accept .ensures)
 
 pub flush-line-spec : {M : Type 1} → statement M
 flush-line-spec =
     tie.close
-    (tie.spec (λ c κs. search needs) survey-ports-requires (λ c κs. search needs) (λ c. search needs) returns flush-sound-requires (λ c. search needs)
-    (λ c. search needs) returns-2)
+    (tie.spec shr-held shr-stores mul-at add-at word-at-requires empty-if-requires store-if-requires (λ c κs. search needs) (λ c. search needs)
+    (λ c. search needs) returns)

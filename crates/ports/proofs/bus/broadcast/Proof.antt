@@ -8,11 +8,11 @@ use Rattle.ports.proofs.bus.broadcast.Statement.{statement}
 use Rattle.ports.proofs.bus.broadcast.Tie as tie
 
 abbrev Inv-loop : tie.InvT-loop
-Inv-loop tags₀ states₀ words₀ line i others bus w c sets rest₀ p₀ tags states words rest p = Telling line bus w i tags₀ states₀
+Inv-loop tags₀ states₀ words₀ line asked bus w c sets rest₀ p₀ tags states words rest p = Telling line bus w asked tags₀ states₀
     words₀ tags states words rest p
 
 abbrev μ-loop : tie.MeasureT-loop
-μ-loop tags₀ states₀ words₀ line i others bus w c sets rest₀ p₀ tags states words rest p = line .shape .ports - p
+μ-loop tags₀ states₀ words₀ line asked bus w c sets rest₀ p₀ tags states words rest p = line .shape .ports - p
 
 -- The start, seen from a turn.
 abbrev start : tie.In-loop Inv-loop μ-loop → tie.Start Inv-loop μ-loop
@@ -55,7 +55,7 @@ loop-again c =
     let at-loop : tie.At-loop Inv-loop μ-loop = search in let after-command-of : tie.After-command-of Inv-loop μ-loop = search in
     let start : tie.Start Inv-loop μ-loop = search in
     let k = after-answer-from .answer-from .kept in
-    telling-more (start .pre .1 .0) _ _ _ (start .pre .0) (start .pre .1 .1 .0) (at-loop .loop .inv) (in-loop .loop-test .taken) (found .lowest-port .ensures)
+    telling-more (start .pre .1 .0) _ _ _ (start .pre .0) (start .pre .1 .1 .0) (start .pre .1 .1 .1 .0) (at-loop .loop .inv) (in-loop .loop-test .taken) (found .lowest-port .ensures)
     (omega (arith, start .fits .w)) (k .0) (k .1 .0) (k .1 .1 .0) (after-command-of .command-of .ensures)
     (after-answer-from .answer-from .ensures)
 

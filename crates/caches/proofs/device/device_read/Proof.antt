@@ -1,7 +1,7 @@
 -- Memory's word, read from bytes. Assumes nothing.
 use borrow.Author.Needs.{needs}
-use Rattle.step.proofs.device_read.Statement.{statement}
-use Rattle.step.proofs.device_read.Tie as tie
+use Rattle.caches.proofs.device.device_read.Statement.{statement}
+use Rattle.caches.proofs.device.device_read.Tie as tie
 
 returns : tie.Need-returns
 returns c = let after-word-at : tie.After-word-at = search in rw (c .accept .ensures, after-word-at .word-at .ensures)
