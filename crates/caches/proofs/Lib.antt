@@ -3,3 +3,4 @@ pub mod Applied
 pub mod Supplied
 pub mod Decisions
 pub mod Flushes
+pub mod Devices

@@ -1,4 +1,4 @@
--- The call of a kind: an access below 3, else a flush or a device read. Assumes nothing.
+-- The call of a kind: an access below 3, else a flush, a device read or a device write. Assumes nothing.
 use Prim.Native.Nat.{ℕ, zero, suc, _<_, _≤_}
 use mathlib.Core.Path.{_≡_, refl}
 use mathlib.Core.Logic.{_≢_}
@@ -7,7 +7,7 @@ use lib.Dec.{eqb}
 use native.Mathlib.Omega.{arith}
 use borrow.Author.Tests.{ne-eqb}
 use Rattle.protocol.specs.declared.state.Mode.{Mode}
-use Rattle.model.specs.declared.order.Call.the-variants.{ByPort, Flush, DeviceRead}
+use Rattle.model.specs.declared.order.Call.the-variants.{ByPort, Flush, DeviceRead, DeviceWrite}
 use Rattle.model.specs.Order.{callOf}
 use Rattle.decode.specs.Order.{accessOf}
 
@@ -23,9 +23,13 @@ module _ (m : Mode) (port mask line compare x : ℕ) where
   unfolding callOf
   call-flush e = rw e
 
-  pub call-device : {kind : ℕ} → 3 ≤ kind → kind ≢ 3 → DeviceRead line ≡ callOf kind m port mask line compare x
+  pub call-device-read : {kind : ℕ} → kind ≡ 4 → DeviceRead line ≡ callOf kind m port mask line compare x
   unfolding callOf
-  call-device {kind} h d = rw (apart 0 (omega arith), apart 1 (omega arith), apart 2 (omega arith), ne-eqb kind 3 d)
+  call-device-read e = rw e
+
+  pub call-device-write : {kind : ℕ} → 3 ≤ kind → kind ≢ 3 → kind ≢ 4 → DeviceWrite mask x line ≡ callOf kind m port mask line compare x
+  unfolding callOf
+  call-device-write {kind} h d e = rw (apart 0 (omega arith), apart 1 (omega arith), apart 2 (omega arith), ne-eqb kind 3 d, ne-eqb kind 4 e)
     where
       apart : (k : ℕ) → k < 3 → eqb kind k ≡ false
       apart k l = ne-eqb kind k (λ e. absurd (omega arith))

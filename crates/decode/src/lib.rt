@@ -40,14 +40,17 @@ fn call_of(kind: u64, m: Mode, port: usize, mask: u8, line: usize, compare: u64,
     if kind == 3 {
         return Call::Flush(port, line);
     }
-    Call::DeviceRead(line)
+    if kind == 4 {
+        return Call::DeviceRead(line);
+    }
+    Call::DeviceWrite(mask, x, line)
 }
 
 // Refusals 4 to 7, in checking order, else the call.
 fn checked_call(shape: Shape, kind: u64, port: usize, mask: u8, line: usize, call: Call) -> Decoded
     ensures { λ r. ⌜ r ≡ checked shape kind port mask line call ⌝ }
 {
-    if 5 <= kind {
+    if 6 <= kind {
         return Decoded::Refused(4);
     }
     if (kind < 4) & (shape.ports <= port) {
@@ -93,6 +96,7 @@ pub fn line_in(call: Call) -> usize
         Call::ByPort(_, _, _, a) => a,
         Call::Flush(_, a) => a,
         Call::DeviceRead(a) => a,
+        Call::DeviceWrite(_, _, a) => a,
     }
 }
 
@@ -104,5 +108,6 @@ pub fn looks(call: Call) -> bool
         Call::ByPort(_, _, _, _) => true,
         Call::Flush(_, _) => true,
         Call::DeviceRead(_) => false,
+        Call::DeviceWrite(_, _, _) => true,
     }
 }

@@ -9,32 +9,36 @@ use lib.ListN.{length}
 use lib.Dec.{eqb}
 use borrow.Author.Tests.{eq-eqb, eqb-true, eqb-false, not-true}
 use Rattle.protocol.specs.declared.state.Mode.{Mode}
+use Rattle.protocol.specs.declared.state.Mode.the-variants.{Through}
 use Rattle.words.specs.declared.access.Access.{Access}
+use Rattle.words.specs.declared.access.Access.the-variants.{Write}
 use Rattle.words.specs.declared.access.Effect.{Effect}
 use Rattle.protocol.specs.declared.rules.Rule.{Rule}
+use Rattle.words.specs.Word.{merge}
 use Rattle.words.specs.Access.{effectAt}
 use Rattle.protocol.specs.Rules.{flushRule}
 use Rattle.words.proofs.Bools.{Is, by-bool}
-use Rattle.words.proofs.Effects.{unwritten}
+use Rattle.words.proofs.Effects.{write-effect, unwritten}
 use Rattle.protocol.proofs.Kept.{flush-own, flush-bus, flush-stores, quiet-same, quiet-keeps}
 use Rattle.model.specs.declared.shape.Shape.{Shape}
 use Rattle.model.specs.declared.order.Call.{Call}
-use Rattle.model.specs.declared.order.Call.the-variants.{ByPort, Flush, DeviceRead}
+use Rattle.model.specs.declared.order.Call.the-variants.{ByPort, Flush, DeviceRead, DeviceWrite}
 use Rattle.model.specs.declared.order.Decoded.{Decoded}
 use Rattle.model.specs.declared.order.Decoded.the-variants.{Asked, Refused}
 use Rattle.model.specs.Shape.{inRange, entryOf}
 use Rattle.model.specs.Order.{Order, decode, lineIn, looks, There}
 use Rattle.model.specs.Tables.{Model, sound, seen, wordAt, memoryAt, holds, owns, dirty, columnSound}
-use Rattle.model.specs.Step.{Result, wordSupplied, shared, wordFound, applied, accessRule, accessed, flushed, called, perform, step}
+use Rattle.model.specs.Step.{Result, wordSupplied, shared, wordFound, applied, accessRule, accessed, flushed, deviceWritten, called, perform, step}
 use Rattle.model.specs.Flat.{Flat, FlatResult, wordIn, markIn, flatAccess, flatPerform, flatStep}
 use Rattle.model.specs.Agreement.{Agrees}
 use Rattle.model.proofs.Below.{all-below, none-below}
-use Rattle.model.proofs.Line.{Unowned, After, word-found, access-good, access-ownerless, gone-good}
+use Rattle.model.proofs.Line.{Unowned, After, word-supplied, word-found, access-good, access-ownerless, gone-good}
 use Rattle.model.proofs.Entries.{Sized, entry-lt}
 use Rattle.model.proofs.Touched.{LineGood, Tidy, Ready, Leaves}
 use Rattle.model.proofs.Applied.{line-after, leaves}
+use Rattle.model.proofs.Written.{line-written, unowned-written, leaves-written}
 use Rattle.model.proofs.Lent.{facts-lent, some-sets}
-use Rattle.model.proofs.Moved.{Moved, access-moves, unmarked-access}
+use Rattle.model.proofs.Moved.{Moved, access-moves, written-moves, unmarked-access}
 use Rattle.model.proofs.Decoded.{line-there, Sound, decode-sound}
 
 -- Tables that go with a flat memory: what every order keeps.
@@ -181,6 +185,30 @@ module _ (s : Shape) (t : Model) (f : Flat) (sim : Sim s t f) (a : ℕ) (line : 
     sim = sim;
   }
 
+  -- A device write.
+  module _ (mask x : ℕ) where
+    supplied-is : wordSupplied s t a ≡ wordIn f a
+    unfolding wordSupplied
+    supplied-is = word-supplied (s .ports) (seen s t a) (wordAt s t a) (memoryAt t a) (wordIn f a) (sim .good a line)
+
+    written : Moved f (flatPerform f (Asked (DeviceWrite mask x a))) (effectAt (Write mask x) (wordIn f a)) Through a
+    written = written-moves f a mask x
+
+    written-is : wordIn (flatPerform f (Asked (DeviceWrite mask x a)) .after) a ≡ merge mask (wordSupplied s t a) x
+    written-is = written .word (rw (sim .flat-words) line) ∙ rw (write-effect mask x (wordIn f a), supplied-is)
+
+    written-agrees : Agrees (deviceWritten s t a mask x .answer) (flatPerform f (Asked (DeviceWrite mask x a)) .answer)
+    unfolding deviceWritten flatPerform
+    written-agrees = record { refusal = refl; value = λ _. refl; swapped = refl; below-8 = omega arith }
+
+    pub device-write-goes : Goes s (deviceWritten s t a mask x) (flatPerform f (Asked (DeviceWrite mask x a)))
+    device-write-goes = record {
+      agrees = written-agrees;
+      sim = sim-after _ (leaves-written s t a ready mask x) (flatPerform f (Asked (DeviceWrite mask x a)) .after)
+          (written .words-length ∙ sim .flat-words) (written .marks-length ∙ sim .flat-marks) (written .word-other) (written .mark-other)
+          (rw written-is (line-written s t a ready mask x)) (λ _. unowned-written s t a ready mask x);
+    }
+
 module _ (s : Shape) (t : Model) (f : Flat) (sim : Sim s t f) where
   -- A call, whatever it asks.
   called-goes : (c : Call) → There s c → Goes s (called s t c) (flatPerform f (Asked c))
@@ -188,6 +216,7 @@ module _ (s : Shape) (t : Model) (f : Flat) (sim : Sim s t f) where
   called-goes (ByPort acc m i a) h = access-goes s t f sim a (h .1) i (h .0) acc m
   called-goes (Flush i a) h = flush-goes s t f sim a (h .1) i (h .0)
   called-goes (DeviceRead a) h = device-read-goes s t f sim a h
+  called-goes (DeviceWrite mask x a) h = device-write-goes s t f sim a h mask x
 
   and-none : (b : Bool) → (b && false) ≡ false
   and-none true = refl

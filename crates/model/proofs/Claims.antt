@@ -14,12 +14,13 @@ use Rattle.protocol.specs.Rules.{flushRule}
 use Rattle.words.proofs.Bools.{by-cond}
 use Rattle.model.specs.declared.shape.Shape.{Shape}
 use Rattle.model.specs.declared.order.Call.{Call}
-use Rattle.model.specs.declared.order.Call.the-variants.{ByPort, Flush, DeviceRead}
+use Rattle.model.specs.declared.order.Call.the-variants.{ByPort, Flush, DeviceRead, DeviceWrite}
 use Rattle.model.specs.declared.order.Decoded.{Decoded}
 use Rattle.model.specs.declared.order.Decoded.the-variants.{Asked, Refused}
 use Rattle.model.specs.Order.{decode, lineIn, looks}
-use Rattle.model.specs.Tables.{Model, lentRefusal, columnSound, seen, holds}
-use Rattle.model.specs.Step.{Result, refuse, wordFound, fetches, evictsOwner, accessRule, accessed, flushed, called, perform, step}
+use Rattle.model.specs.Tables.{Model, lentRefusal, columnSound, seen, holds, dirty}
+use Rattle.model.specs.Step.{Result, refuse, wordFound, fetches, evictsOwner, accessRule, accessed, flushed, deviceWritten}
+use Rattle.model.specs.Step.{called, perform, step}
 use Rattle.model.specs.Claims.{FewAccesses, RefusedChangesNothing, FindSays, AuditSays}
 use Rattle.model.specs.declared.found.Found.{Found}
 use Rattle.model.specs.declared.found.Found.the-variants as finds
@@ -46,11 +47,16 @@ unfolding flushed
 flushed-few s t i a = by-cond Few (holds s t a i) _ _ (λ _. (omega arith, omega (arith, bit-le (flushRule (seen s t a i) .stores))))
     (λ _. (omega arith, omega arith))
 
+written-few : (s : Shape) (t : Model) (a mask x : ℕ) → Few (deviceWritten s t a mask x)
+unfolding deviceWritten
+written-few s t a mask x = (omega (arith, bit-le (not (dirty s t a))), omega arith)
+
 called-few : (s : Shape) (t : Model) (c : Call) → Few (called s t c)
 unfolding called
 called-few s t (ByPort acc m i a) = accessed-few s t i a acc m
 called-few s t (Flush i a) = flushed-few s t i a
 called-few s t (DeviceRead a) = (omega arith, omega arith)
+called-few s t (DeviceWrite mask x a) = written-few s t a mask x
 
 perform-few : (s : Shape) (t : Model) (d : Decoded) → Few (perform s t d)
 unfolding perform
@@ -73,11 +79,16 @@ accessed-still : (s : Shape) (t : Model) (i a : ℕ) (acc : Access) (m : Mode) �
 unfolding accessed
 accessed-still s t i a acc m n = absurd (n refl)
 
+written-still : (s : Shape) (t : Model) (a mask x : ℕ) → Still t (deviceWritten s t a mask x)
+unfolding deviceWritten
+written-still s t a mask x n = absurd (n refl)
+
 called-still : (s : Shape) (t : Model) (c : Call) → Still t (called s t c)
 unfolding called
 called-still s t (ByPort acc m i a) = accessed-still s t i a acc m
 called-still s t (Flush i a) = flushed-still s t i a
 called-still s t (DeviceRead a) = λ n. absurd (n refl)
+called-still s t (DeviceWrite mask x a) = written-still s t a mask x
 
 perform-still : (s : Shape) (t : Model) (d : Decoded) → Still t (perform s t d)
 unfolding perform

@@ -8,7 +8,7 @@ use Rattle.protocol.specs.declared.state.Mode.{Mode}
 use Rattle.words.proofs.Bools.{Is, by-cond}
 use Rattle.model.specs.declared.shape.Shape.{Shape}
 use Rattle.model.specs.declared.order.Call.{Call}
-use Rattle.model.specs.declared.order.Call.the-variants.{ByPort, Flush, DeviceRead}
+use Rattle.model.specs.declared.order.Call.the-variants.{ByPort, Flush, DeviceRead, DeviceWrite}
 use Rattle.model.specs.declared.order.Decoded.{Decoded}
 use Rattle.model.specs.declared.order.Decoded.the-variants.{Asked, Refused}
 use Rattle.model.specs.Order.{Order, hasPort, checked, callOf, decode, lineIn, There}
@@ -17,6 +17,7 @@ pub line-there : (s : Shape) (c : Call) → There s c → lineIn c < s .lines
 line-there s (ByPort acc m i a) h = h .1
 line-there s (Flush i a) h = h .1
 line-there s (DeviceRead a) h = h
+line-there s (DeviceWrite mask x a) h = h
 
 abbrev pub Sound : Shape → Decoded → Type 0
 Sound s (Asked c) = There s c
@@ -30,7 +31,7 @@ call-there s kind m port mask line compare x p l =
     (λ _. by-cond (There s) (eqb kind 1) _ _ (λ k. (p (omega (arith, eqb-true kind 1 k)), l))
     (λ _. by-cond (There s) (eqb kind 2) _ _ (λ k. (p (omega (arith, eqb-true kind 2 k)), l))
     (λ _. by-cond (There s) (eqb kind 3) _ _ (λ k. (p (omega (arith, eqb-true kind 3 k)), l))
-    (λ _. l))))
+    (λ _. by-cond (There s) (eqb kind 4) _ _ (λ _. l) (λ _. l)))))
 
 port-there : (kind port n : ℕ) → Is (not (hasPort kind && leb n port)) → kind < 4 → port < n
 port-there kind port n h k = leb-false n port (not-true _ (rw (lt-ltb kind 4 k) at h))
@@ -39,7 +40,7 @@ checked-sound : (s : Shape) (kind port mask line : ℕ) (call : Call) → ((kind
     → Sound s (checked s kind port mask line call)
 unfolding checked
 checked-sound s kind port mask line call f =
-    by-cond (Sound s) (leb 5 kind) _ _ (λ _. omega arith)
+    by-cond (Sound s) (leb 6 kind) _ _ (λ _. omega arith)
     (λ _. by-cond (Sound s) (hasPort kind && leb (s .ports) port) _ _ (λ _. omega arith)
     (λ h. by-cond (Sound s) (leb (s .lines) line) _ _ (λ _. omega arith)
     (λ l. by-cond (Sound s) (eqb kind 2 && not (eqb mask 0x0F || eqb mask 0xF0)) _ _ (λ _. omega arith)

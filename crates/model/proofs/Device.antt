@@ -1,19 +1,27 @@
--- The device guarantee: the agreement and the mark's reading, joined. Assumes nothing.
+-- What a device reads, and what is read after it wrote: the agreement and the mark's reading, joined. Assumes nothing.
 use Prim.Native.Nat.{ℕ, zero, suc, _<_}
-use mathlib.Core.Path.{_≡_, refl, ap}
-use mathlib.Core.Bool.{false, not}
+use mathlib.Core.Path.{_≡_, refl, ap, _∙_}
+use mathlib.Core.Bool.{true, false, not, false≢true}
 use mathlib.Core.List.{List, [], _∷_}
 use native.Mathlib.Omega.{arith}
 use lib.ListN.{getD, length, replicate}
+use borrow.Author.Tests.{eqb-true}
+use Rattle.words.specs.declared.access.Access.the-variants.{Read, Write, Swap}
+use Rattle.words.specs.Word.{merge}
+use Rattle.words.proofs.Effects.{write-effect}
 use Rattle.model.specs.declared.shape.Shape.{Shape}
-use Rattle.model.specs.Order.{Order}
+use Rattle.model.specs.declared.order.Call.the-variants.{ByPort, Flush, DeviceRead, DeviceWrite}
+use Rattle.model.specs.declared.order.Decoded.{Decoded}
+use Rattle.model.specs.declared.order.Decoded.the-variants.{Asked, Refused}
+use Rattle.model.specs.Order.{Order, decode}
 use Rattle.model.specs.Tables.{Model, lentRefusal, memoryAt}
 use Rattle.model.specs.Step.{called, perform, step}
 use Rattle.model.specs.Fresh.{fresh}
-use Rattle.model.specs.Flat.{Flat, wordIn, markIn, flatStep, flatStart}
-use Rattle.model.specs.Marks.{Event, neither, SetSince, eventsOf, flatRun, modelRun, DeviceGuarantee}
+use Rattle.model.specs.Flat.{Flat, wordIn, markIn, flatAccess, flatPerform, flatStep, flatStart}
+use Rattle.model.specs.Marks.{Event, neither, SetSince, eventsOf, flatRun, modelRun, isReadOf, DeviceWriteSeen, DeviceGuarantee}
 use Rattle.model.proofs.Lent.{facts-lent}
 use Rattle.model.proofs.Decoded.{decode-sound}
+use Rattle.model.proofs.Moved.{written-moves}
 use Rattle.model.proofs.Agree.{Sim, step-goes}
 use Rattle.model.proofs.Theorem.{fresh-sim}
 use Rattle.model.proofs.Marks.{mark-says, neither≢sets}
@@ -54,3 +62,32 @@ device-guarantee s t accepted os a clear o asks =
     let sim = run-sim s os (fresh s t) (flatStart (t .memory)) (fresh-sim s t accepted) in
     let there : a < s .lines = rw asks at (decode-sound s o) in
     rw (facts-lent s (modelRun s os (fresh s t)) (record { range = sim .range; sizes = sim .sized }), asks, memory-has s t accepted os a there clear)
+
+-- Under mark 0 a read, by a port or by a device, answers the flat word, and its value is compared.
+read-value : (f : Flat) (a : ℕ) (d : Decoded) → isReadOf a d ≡ true → markIn f a ≡ false
+    → (flatPerform f d .answer .compared ≡ true) × (flatPerform f d .answer .value ≡ wordIn f a)
+unfolding flatPerform flatAccess isReadOf
+read-value f a (Refused k) h u = absurd (false≢true h)
+read-value f a (Asked (ByPort Read m i b)) h u = rw (eqb-true b a h) (refl, refl)
+read-value f a (Asked (ByPort (Write mask x) m i b)) h u = absurd (false≢true h)
+read-value f a (Asked (ByPort (Swap mask x compare) m i b)) h u = absurd (false≢true h)
+read-value f a (Asked (Flush i b)) h u = absurd (false≢true h)
+read-value f a (Asked (DeviceRead b)) h u = rw (eqb-true b a h, u) (refl, refl)
+read-value f a (Asked (DeviceWrite mask x b)) h u = absurd (false≢true h)
+
+-- After a device write the flat memory has its word, under mark 0.
+written-flat : (f : Flat) (a mask x : ℕ) {d : Decoded} → d ≡ Asked (DeviceWrite mask x a) → a < length (f .words) → a < length (f .marks)
+    → (wordIn (flatPerform f d .after) a ≡ merge mask (wordIn f a) x) × (markIn (flatPerform f d .after) a ≡ false)
+written-flat f a mask x e lw lm =
+    let moves = written-moves f a mask x in
+    rw e (moves .word lw ∙ rw (write-effect mask x (wordIn f a)), moves .mark lm)
+
+pub device-write-seen : DeviceWriteSeen
+unfolding flatStep
+device-write-seen s t accepted os mask x a o asks n reads =
+    let f = flatRun s os (flatStart (t .memory)) in
+    let sim = run-sim s os (fresh s t) (flatStart (t .memory)) (fresh-sim s t accepted) in
+    let there : a < s .lines = rw asks at (decode-sound s o) in
+    let flat = written-flat f a mask x asks (rw (sim .flat-words) there) (rw (sim .flat-marks) there) in
+    let read = read-value (flatStep s o f .after) a (decode s n) reads (flat .1) in
+    step-goes s _ (flatStep s o f .after) (step-goes s _ f sim o .sim) n .agrees .value (read .0) ∙ read .1 ∙ flat .0

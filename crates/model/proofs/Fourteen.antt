@@ -9,12 +9,12 @@ use Rattle.model.specs.Order.{decode, checked, callOf}
 use Rattle.model.specs.Below.{allBelow, anyBelow, orElse, lowest, atOr}
 use Rattle.model.specs.Tables.{lentRefusal, sound, seen, wordAt, dirty, columnSound}
 use Rattle.model.specs.Step.{putBelow, wordSupplied, byteAnswered, wordAnswered, shared, wordFound, fetches, evictsOwner, byteAfter, wordAfter}
-use Rattle.model.specs.Step.{applied, accessRule, accessed, flushed, called, perform, step}
+use Rattle.model.specs.Step.{applied, accessRule, accessed, flushed, deviceWritten, called, perform, step}
 use Rattle.model.specs.Fresh.{zeroed, fresh}
 use Rattle.model.specs.Fourteen.{table, twoPorts, start, played, FourteenHold}
 
 pub fourteen-hold : FourteenHold
 unfolding code stateOf merge mergeLow effectAt rule flushRule snooped updates inRange fits refusalOf decode checked callOf allBelow anyBelow orElse
     lowest atOr lentRefusal sound seen wordAt dirty columnSound putBelow wordSupplied byteAnswered wordAnswered shared wordFound fetches evictsOwner
-    byteAfter wordAfter applied accessRule accessed flushed called perform step zeroed fresh table twoPorts start played
+    byteAfter wordAfter applied accessRule accessed flushed deviceWritten called perform step zeroed fresh table twoPorts start played
 fourteen-hold = refl

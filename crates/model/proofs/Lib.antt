@@ -5,6 +5,7 @@ pub mod Line
 pub mod Entries
 pub mod Touched
 pub mod Applied
+pub mod Written
 pub mod Lent
 pub mod Bounds
 pub mod Audited

@@ -133,6 +133,14 @@ module _ (n i : ℕ) (st : ℕ → State) (wd : ℕ → ℕ) (mem w : ℕ) (insi
                 (mp (mp (ownerless-kept k m (sharedBy st i n) (ownedBy st n) (st i) (st p)) (knows p h d)) clear))
           ]
 
+-- A line that nobody holds.
+pub free-good : (n : ℕ) (st : ℕ → State) (wd : ℕ → ℕ) (mem w : ℕ) → ((p : ℕ) → p < n → st p ≡ I) → mem ≡ w → Good n st wd mem w
+free-good n st wd mem w none e = record {
+  words = λ p h v. absurd (false≢true (rw (none p h) at v));
+  pairs = λ p q hp hq d. rw (none p hp) refl;
+  clean = λ _. e;
+}
+
 -- The line after the ports that `gone` names gave it up: memory got the word if one of them owned it.
 module _ (n : ℕ) (gone : ℕ → Bool) (st : ℕ → State) (wd : ℕ → ℕ) (mem w : ℕ) (good : Good n st wd mem w)
     (st′ : ℕ → State) (wd′ : ℕ → ℕ) (mem′ : ℕ)

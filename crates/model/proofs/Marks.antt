@@ -20,13 +20,13 @@ use Rattle.words.specs.Access.{effectAt, writes, isWrite}
 use Rattle.words.proofs.Bools.{Is, by-bool}
 use Rattle.words.proofs.Effects.{read-effect, write-effect, swap-succeeds, swap-fails}
 use Rattle.model.specs.declared.shape.Shape.{Shape}
-use Rattle.model.specs.declared.order.Call.the-variants.{ByPort, Flush, DeviceRead}
+use Rattle.model.specs.declared.order.Call.the-variants.{ByPort, Flush, DeviceRead, DeviceWrite}
 use Rattle.model.specs.declared.order.Decoded.{Decoded}
 use Rattle.model.specs.declared.order.Decoded.the-variants.{Asked, Refused}
 use Rattle.model.specs.Order.{Order, decode}
 use Rattle.model.specs.Flat.{Flat, FlatResult, wordIn, markIn, flatAccess, flatPerform, flatStep}
 use Rattle.model.specs.Marks.{Event, sets, clears, neither, eventOf, eventsOf, flatRun, SetSince, startEvent, MarkSays}
-use Rattle.model.proofs.Moved.{Moved, access-moves}
+use Rattle.model.proofs.Moved.{Moved, access-moves, written-moves}
 
 -- What an event does to a mark, and a list of events.
 abbrev moved : Event → Bool → Bool
@@ -73,11 +73,12 @@ access-moved a f acc m i b h =
 
 mark-moves : (a : ℕ) (f : Flat) (d : Decoded) → a < length (f .marks)
     → markIn (flatPerform f d .after) a ≡ moved (eventOf a d (flatPerform f d .answer .swapped)) (markIn f a)
-unfolding flatPerform eventOf
+unfolding flatPerform flatAccess eventOf
 mark-moves a f (Refused n) h = refl
 mark-moves a f (Asked (Flush i b)) h = refl
 mark-moves a f (Asked (DeviceRead b)) h = refl
 mark-moves a f (Asked (ByPort acc m i b)) h = access-moved a f acc m i b h
+mark-moves a f (Asked (DeviceWrite mask x b)) h = access-moved a f (Write mask x) Through 0 b h
 
 marks-length : (f : Flat) (d : Decoded) → length (flatPerform f d .after .marks) ≡ length (f .marks)
 unfolding flatPerform
@@ -85,6 +86,7 @@ marks-length f (Refused n) = refl
 marks-length f (Asked (Flush i b)) = refl
 marks-length f (Asked (DeviceRead b)) = refl
 marks-length f (Asked (ByPort acc m i b)) = access-moves f m b acc .marks-length
+marks-length f (Asked (DeviceWrite mask x b)) = written-moves f b mask x .marks-length
 
 -- A list of orders folds its events.
 mark-folds : (s : Shape) (a : ℕ) (os : List Order) (f : Flat) → a < length (f .marks)

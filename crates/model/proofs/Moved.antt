@@ -1,4 +1,4 @@
--- An access moves the flat memory at its line alone, by the effect that the access has at the line's word. Assumes nothing.
+-- An access, or a device write, moves the flat memory at its line alone, by the effect that it has at the line's word. Assumes nothing.
 use Prim.Native.Nat.{ℕ, _<_}
 use mathlib.Core.Path.{_≡_, refl, sym, _∙_}
 use mathlib.Core.Logic.{_≢_}
@@ -19,7 +19,9 @@ use Rattle.words.specs.Word.{half}
 use Rattle.words.specs.Access.{effectAt, writes}
 use Rattle.words.proofs.Bools.{Is, by-bool}
 use Rattle.words.proofs.Effects.{read-effect, write-effect, swap-succeeds, swap-fails}
-use Rattle.model.specs.Flat.{Flat, FlatAnswer, FlatResult, flatAnswer, wordIn, markIn, flatRead, flatWrite, flatAccess}
+use Rattle.model.specs.declared.order.Call.the-variants.{DeviceWrite}
+use Rattle.model.specs.declared.order.Decoded.the-variants.{Asked}
+use Rattle.model.specs.Flat.{Flat, FlatAnswer, FlatResult, flatAnswer, wordIn, markIn, flatRead, flatWrite, flatAccess, flatPerform}
 
 -- The mark after an access with an outcome in a mode: set by a write in write back, cleared in write through, else as it was.
 abbrev pub markAfter : Outcome → Mode → Bool → Bool
@@ -75,6 +77,11 @@ module _ (f : Flat) (m : Mode) (a : ℕ) where
       by-bool (eqb (half mask (wordIn f a)) compare)
       (λ h. rw (swap-succeeds mask compare x (wordIn f a) h, h) (write-moves _ _ _ refl refl refl))
       (λ h. rw (swap-fails mask compare x (wordIn f a) h, not-true (eqb (half mask (wordIn f a)) compare) h) (read-moves _ _ refl refl refl))
+
+-- A device write moves it as a write-through write does.
+pub written-moves : (f : Flat) (a mask x : ℕ) → Moved f (flatPerform f (Asked (DeviceWrite mask x a))) (effectAt (Write mask x) (wordIn f a)) Through a
+unfolding flatPerform flatAccess
+written-moves f a mask x = access-moves f Through a (Write mask x)
 
 -- Under mark 0 an access was in write through, or a read of a line that had mark 0.
 pub unmarked-access : (k : Outcome) (m : Mode) (old dirty : Bool) → (Is (not old) → Is (not dirty)) → Is (not (markAfter k m old))

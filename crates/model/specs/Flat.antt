@@ -6,12 +6,13 @@ use mathlib.Core.List.{List}
 use lib.ListN.{getD, set, length, replicate}
 use lib.Dec.{eqb}
 use Rattle.protocol.specs.declared.state.Mode.{Mode}
+use Rattle.protocol.specs.declared.state.Mode.the-variants.{Through}
 use Rattle.words.specs.declared.access.Access.{Access}
 use Rattle.words.specs.declared.access.Access.the-variants.{Read, Write, Swap}
 use Rattle.protocol.specs.State.{isBack}
 use Rattle.words.specs.Word.{merge, half}
 use Rattle.model.specs.declared.shape.Shape.{Shape}
-use Rattle.model.specs.declared.order.Call.the-variants.{ByPort, Flush, DeviceRead}
+use Rattle.model.specs.declared.order.Call.the-variants.{ByPort, Flush, DeviceRead, DeviceWrite}
 use Rattle.model.specs.declared.order.Decoded.{Decoded}
 use Rattle.model.specs.declared.order.Decoded.the-variants.{Asked, Refused}
 use Rattle.model.specs.Order.{Order, decode}
@@ -61,11 +62,13 @@ flatAccess f (Swap mask x compare) m a =
     (flatResult (flatAnswer 0 (wordIn f a) 1 true) (flatWrite f m a (merge mask (wordIn f a) x)))
     (flatResult (flatAnswer 0 (wordIn f a) 0 true) (flatRead f m a))
 
+-- A device write merges into F[a] and clears the mark, as a write-through write does.
 unfoldable pub flatPerform : Flat → Decoded → FlatResult
 flatPerform f (Refused n) = flatResult (flatAnswer n 0 0 true) f
 flatPerform f (Asked (ByPort acc m i a)) = flatAccess f acc m a
 flatPerform f (Asked (Flush i a)) = flatResult (flatAnswer 0 0 0 true) f
 flatPerform f (Asked (DeviceRead a)) = flatResult (flatAnswer 0 (wordIn f a) 0 (not (markIn f a))) f
+flatPerform f (Asked (DeviceWrite mask x a)) = flatResult (flatAnswer 0 0 0 true) (flatWrite f Through a (merge mask (wordIn f a) x))
 
 unfoldable pub flatStep : Shape → Order → Flat → FlatResult
 flatStep s o f = flatPerform f (decode s o)

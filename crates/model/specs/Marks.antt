@@ -1,5 +1,5 @@
--- What the flat memory's mark of a line says of the orders so far, and what a device then reads. The proofs are `mark-says` in
--- proofs/Marks.antt and `device-guarantee` in proofs/Device.antt.
+-- What the flat memory's mark of a line says of the orders so far, what a device then reads, and what is read after it wrote. The proofs are
+-- `mark-says` in proofs/Marks.antt, and `device-guarantee` and `device-write-seen` in proofs/Device.antt.
 use Prim.Native.Nat.{ℕ, _<_}
 use mathlib.Core.Path.{_≡_}
 use mathlib.Core.Logic.{_≢_, _↔_}
@@ -8,9 +8,11 @@ use mathlib.Core.List.{List, [], _∷_}
 use lib.ListN.{getD, length}
 use lib.Dec.{eqb}
 use Rattle.protocol.specs.declared.state.Mode.the-variants.{Through, Back}
+use Rattle.words.specs.declared.access.Access.the-variants.{Read, Write, Swap}
+use Rattle.words.specs.Word.{merge}
 use Rattle.words.specs.Access.{isWrite}
 use Rattle.model.specs.declared.shape.Shape.{Shape}
-use Rattle.model.specs.declared.order.Call.the-variants.{ByPort, Flush, DeviceRead}
+use Rattle.model.specs.declared.order.Call.the-variants.{ByPort, Flush, DeviceRead, DeviceWrite}
 use Rattle.model.specs.declared.order.Decoded.{Decoded}
 use Rattle.model.specs.declared.order.Decoded.the-variants.{Asked, Refused}
 use Rattle.model.specs.Order.{Order, decode}
@@ -20,7 +22,7 @@ use Rattle.model.specs.Fresh.{fresh}
 use Rattle.model.specs.Flat.{Flat, wordIn, markIn, flatStep, flatStart}
 
 -- What an order is to the mark of a line: `sets`, an accepted write-back write or successful write-back swap of it; `clears`, an accepted
--- write-through read, write or compare-and-swap of it; or neither, as a flush or a device read.
+-- write-through read, write or compare-and-swap of it, or an accepted device write of it; or neither, as a flush or a device read.
 pub data Event : Type 0 where
   sets clears neither : Event
 
@@ -31,6 +33,7 @@ eventOf a (Asked (ByPort acc Through i b)) n = cond (eqb b a) clears neither
 eventOf a (Asked (ByPort acc Back i b)) n = cond (eqb b a && (isWrite acc || eqb n 1)) sets neither
 eventOf a (Asked (Flush i b)) n = neither
 eventOf a (Asked (DeviceRead b)) n = neither
+eventOf a (Asked (DeviceWrite mask x b)) n = cond (eqb b a) clears neither
 
 -- The events of a list of orders, from a flat memory on, and that memory after them.
 unfoldable pub eventsOf : Shape → ℕ → List Order → Flat → List Event
@@ -60,6 +63,25 @@ MarkSays =
 unfoldable pub modelRun : Shape → List Order → Model → Model
 modelRun s [] t = t
 modelRun s (o ∷ os) t = modelRun s os (step s o t .after)
+
+-- A read of line a, by a port or by a device.
+unfoldable pub isReadOf : ℕ → Decoded → Bool
+isReadOf a (Refused k) = false
+isReadOf a (Asked (ByPort Read m i b)) = eqb b a
+isReadOf a (Asked (ByPort (Write mask x) m i b)) = false
+isReadOf a (Asked (ByPort (Swap mask x compare) m i b)) = false
+isReadOf a (Asked (Flush i b)) = false
+isReadOf a (Asked (DeviceRead b)) = eqb b a
+isReadOf a (Asked (DeviceWrite mask x b)) = false
+
+-- What a device wrote is seen at once, without a flush: after any list of orders from a fresh model, whatever the caches then hold, and a
+-- device write of a line, a read of it by any port, in either mode, and a device read of it answer the line's flat word with the operand
+-- merged under the mask.
+abbrev pub DeviceWriteSeen : Type 0
+DeviceWriteSeen =
+    (s : Shape) (t : Model) → lentRefusal s t ≡ 0 → (os : List Order) (mask x a : ℕ) (o : Order) → decode s o ≡ Asked (DeviceWrite mask x a)
+    → (n : Order) → isReadOf a (decode s n) ≡ true
+    → step s n (step s o (modelRun s os (fresh s t)) .after) .answer .value ≡ merge mask (wordIn (flatRun s os (flatStart (t .memory))) a) x
 
 -- The device guarantee in one sentence: after any list of orders from a fresh model, a device read of a line answers its flat word, if
 -- no order set the line's mark since the last that cleared it, or, if none cleared it, since the start. Of other lines nothing is said;

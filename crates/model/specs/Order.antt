@@ -7,7 +7,7 @@ use Rattle.protocol.specs.declared.state.Mode.the-variants.{Through, Back}
 use Rattle.words.specs.declared.access.Access.the-variants.{Read, Write, Swap}
 use Rattle.model.specs.declared.shape.Shape.{Shape}
 use Rattle.model.specs.declared.order.Call.{Call}
-use Rattle.model.specs.declared.order.Call.the-variants.{ByPort, Flush, DeviceRead}
+use Rattle.model.specs.declared.order.Call.the-variants.{ByPort, Flush, DeviceRead, DeviceWrite}
 use Rattle.model.specs.declared.order.Decoded.{Decoded}
 use Rattle.model.specs.declared.order.Decoded.the-variants.{Asked, Refused}
 
@@ -30,21 +30,22 @@ hasPort kind = ltb kind 4
 -- Refusals 4 to 7, in checking order, else the call.
 unfoldable pub checked : Shape → ℕ → ℕ → ℕ → ℕ → Call → Decoded
 checked s kind port mask line call =
-    cond (leb 5 kind) (Refused 4)
+    cond (leb 6 kind) (Refused 4)
     (cond (hasPort kind && leb (s .ports) port) (Refused 5)
     (cond (leb (s .lines) line) (Refused 6)
     (cond (eqb kind 2 && not (eqb mask 0x0F || eqb mask 0xF0)) (Refused 7)
     (Asked call))))
 
--- What the kinds 0 to 4 ask: read, write, compare-and-swap, flush and device read. Each takes the fields that it uses. (Kinds 5 to 7 are
--- refused first.)
+-- What the kinds 0 to 5 ask: read, write, compare-and-swap, flush, device read and device write. Each takes the fields that it uses.
+-- (Kinds 6 and 7 are refused first.)
 unfoldable pub callOf : ℕ → Mode → ℕ → ℕ → ℕ → ℕ → ℕ → Call
 callOf kind m port mask line compare x =
     cond (eqb kind 0) (ByPort Read m port line)
     (cond (eqb kind 1) (ByPort (Write mask x) m port line)
     (cond (eqb kind 2) (ByPort (Swap mask x compare) m port line)
     (cond (eqb kind 3) (Flush port line)
-    (DeviceRead line))))
+    (cond (eqb kind 4) (DeviceRead line)
+    (DeviceWrite mask x line)))))
 
 -- The fields of the word: 0–2 kind, 3 mode, 4–7 port, 8–15 byte mask, 16–31 line, 32–63 compare value.
 unfoldable pub decode : Shape → Order → Decoded
@@ -61,15 +62,18 @@ abbrev pub lineIn : Call → ℕ
 lineIn (ByPort acc m i a) = a
 lineIn (Flush i a) = a
 lineIn (DeviceRead a) = a
+lineIn (DeviceWrite mask x a) = a
 
 -- The call looks at the ports' entries at its line's index: all but a device read.
 abbrev pub looks : Call → Bool
 looks (ByPort acc m i a) = true
 looks (Flush i a) = true
 looks (DeviceRead a) = false
+looks (DeviceWrite mask x a) = true
 
 -- The call names a port below ports, where it names one, and a line below lines.
 abbrev pub There : Shape → Call → Type 0
 There s (ByPort acc m i a) = (i < s .ports) × (a < s .lines)
 There s (Flush i a) = (i < s .ports) × (a < s .lines)
 There s (DeviceRead a) = a < s .lines
+There s (DeviceWrite mask x a) = a < s .lines

@@ -8,14 +8,16 @@ use Rattle.protocol.specs.declared.state.Mode.{Mode}
 use Rattle.words.specs.declared.access.Access.{Access}
 use Rattle.words.specs.declared.access.Effect.{Effect}
 use Rattle.protocol.specs.declared.rules.Bus.{Bus}
+use Rattle.protocol.specs.declared.rules.Bus.the-variants.{Invalidate}
 use Rattle.protocol.specs.declared.rules.Rule.{Rule}
 use Rattle.protocol.specs.State.{code, owner}
+use Rattle.words.specs.Word.{merge}
 use Rattle.words.specs.Access.{effectAt}
 use Rattle.protocol.specs.Rules.{rule, flushRule, snooped, updates}
 use Rattle.words.specs.Bools.{bit}
 use Rattle.model.specs.declared.shape.Shape.{Shape}
 use Rattle.model.specs.declared.order.Call.{Call}
-use Rattle.model.specs.declared.order.Call.the-variants.{ByPort, Flush, DeviceRead}
+use Rattle.model.specs.declared.order.Call.the-variants.{ByPort, Flush, DeviceRead, DeviceWrite}
 use Rattle.model.specs.declared.order.Decoded.{Decoded}
 use Rattle.model.specs.declared.order.Decoded.the-variants.{Asked, Refused}
 use Rattle.model.specs.declared.answer.Answer.{Answer}
@@ -121,11 +123,23 @@ module _ (s : Shape) (t : Model) (i a : ℕ) where
       let r = flushRule (seen s t a i) in
       cond (holds s t a i) (result (accepted 0 0 0 (bit (r .stores))) (applied r (wordAt s t a i))) (result (accepted 0 0 0 0) t)
 
+-- A device write: the word that is supplied is merged and stored in memory, and every holder becomes I, as the snoop table has it; tags and
+-- words stay. A merge from memory counts one read, whatever the mask; the store counts one write.
+unfoldable pub deviceWritten : Shape → Model → ℕ → ℕ → ℕ → Result
+deviceWritten s t a mask x =
+    result (accepted 0 0 (bit (not (dirty s t a))) 1) (record {
+      memory = set (t .memory) a (merge mask (wordSupplied s t a) x);
+      tags = t .tags;
+      states = putBelow (entryOf s a) (byteAnswered s t a (holds s t a) Invalidate) (s .ports) (t .states);
+      words = t .words;
+    })
+
 -- What a call does, where no entry that it looks at is unsound. A device read fetches memory's word.
 unfoldable pub called : Shape → Model → Call → Result
 called s t (ByPort acc m i a) = accessed s t i a acc m
 called s t (Flush i a) = flushed s t i a
 called s t (DeviceRead a) = result (accepted (memoryAt t a) 0 1 0) t
+called s t (DeviceWrite mask x a) = deviceWritten s t a mask x
 
 -- Refusal 8, where the call looks at the entries at its line's index and one of them is not sound.
 unfoldable pub perform : Shape → Model → Decoded → Result

@@ -1,5 +1,6 @@
-// Runs the fourteen orders of the scope, and then an order of each refusal, through the C interface's functions, and prints for each its
-// place, the five numbers, the state bytes and the words of main memory; and, after each part, the audit and where a line's word stands.
+// Runs the fourteen orders of the scope, then device writes, then an order of each refusal, through the C interface's functions, and prints
+// for each its place, the five numbers, the state bytes and the words of main memory; and, after each part, the audit and where a line's word
+// stands.
 // What it prints is kept in the file stdout.
 use model::found::Found;
 use model::shape::Shape;
@@ -196,7 +197,26 @@ fn main() {
     look(&memory, &tags, &states, &data, 1);
     look(&memory, &tags, &states, &data, 2);
 
-    // Refusal 2, nine ports; 3, a memory of two words for one line; 4, kinds 5 to 7; 5, port 2; 6, line 2; 7, the masks 0 and 0xFF.
+    // A device writes byte 1 of line 1, which port 0 holds clean (port and mode, all ones in the word, are ignored); port 1 writes the line in
+    // write back and port 0 reads it; a device writes byte 0, merged into the owner's word; port 0 reads what it wrote.
+    let device = [
+        0x102FDu64,
+        0xAB00,
+        0x1FF19,
+        7,
+        0x10008,
+        0,
+        0x10105,
+        0xFF09,
+        0x10008,
+        0,
+    ];
+    run(s, &mut memory, &mut tags, &mut states, &mut data, &device);
+    audited(&memory, &tags, &states, &data);
+    look(&memory, &tags, &states, &data, 1);
+
+    // Refusal 2, nine ports; 3, a memory of two words for one line; 4, kinds 6 and 7; 5, port 2; 6, line 2, by a device too, whose port is not
+    // asked; 7, the masks 0 and 0xFF.
     let nine = Shape {
         ports: 9,
         sets: 1,
@@ -208,15 +228,15 @@ fn main() {
         lines: 1,
     };
     let refused = [
-        0x5u64,
-        0,
-        0x6,
+        0x6u64,
         0,
         0x7,
         0,
         0x23,
         0,
         0x20004,
+        0,
+        0x200F5,
         0,
         0x2,
         0,
@@ -241,9 +261,9 @@ fn main() {
     );
     run(s, &mut memory, &mut tags, &mut states, &mut data, &refused);
 
-    // Refusal 8: a byte that is no state. A device read looks at no entry.
+    // Refusal 8: a byte that is no state. A device write is refused too; a device read looks at no entry.
     states[0] = 3;
-    let unsound = [0x8u64, 0, 0x13, 0, 0x4, 0];
+    let unsound = [0x8u64, 0, 0x13, 0, 0x5, 0, 0x4, 0];
     run(s, &mut memory, &mut tags, &mut states, &mut data, &unsound);
     audited(&memory, &tags, &states, &data);
     look(&memory, &tags, &states, &data, 0);

@@ -13,7 +13,7 @@ lt-apart : (p n : ℕ) → p < n → p ≢ n
 lt-apart p n h e = omega arith
 
 module _ (at : ℕ → ℕ) (inj : (p q : ℕ) → at p ≡ at q → p ≡ q) where
-  put-ext : (f g : ℕ → ℕ) (n : ℕ) (l : List ℕ) → ((p : ℕ) → p < n → f p ≡ g p) → putBelow at f n l ≡ putBelow at g n l
+  pub put-ext : (f g : ℕ → ℕ) (n : ℕ) (l : List ℕ) → ((p : ℕ) → p < n → f p ≡ g p) → putBelow at f n l ≡ putBelow at g n l
   unfolding putBelow
   put-ext f g zero l h = refl
   put-ext f g (suc n) l h = rw (put-ext f g n l (λ p q. h p (omega arith)), h n (omega arith))

@@ -20,6 +20,9 @@ pub enum Bus {
     ShareOwned,
 }
 
+// The number of the command to become I, which a device sends too. (All the numbers: `busNumber`.)
+pub const INVALIDATE: u8 = 1;
+
 // A rule of the own table: the port's next state, what goes over the bus, and whether memory gets the line's word.
 pub struct Rule {
     pub own: State,

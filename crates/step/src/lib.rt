@@ -45,6 +45,9 @@ fn call_on_line(
         }
         Call::Flush(i, _) => flush::flush_line(memory, tags, states, words, line, i, said),
         Call::DeviceRead(_) => device::device_read(memory, line.number),
+        Call::DeviceWrite(mask, x, _) => {
+            device::device_write(memory, tags, states, words, line, said, mask, x)
+        }
     }
 }
 

@@ -8,4 +8,6 @@ returns c = let after-call : tie.After-call = search in rw (after-call .call .gi
 
 pub line-in-spec : {M : Type 1} → statement M
 line-in-spec =
-    tie.close (tie.spec (λ c. search needs) (λ c. search needs) (λ c. search needs) returns (λ c. search needs) (λ c. search needs))
+    tie.close
+    (tie.spec (λ c. search needs) (λ c. search needs) (λ c. search needs) (λ c. search needs) returns (λ c. search needs) (λ c. search needs)
+    (λ c. search needs))

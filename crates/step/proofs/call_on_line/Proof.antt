@@ -18,6 +18,12 @@ flush-line-requires c κs =
     let p = rw (after-call2 .call2 .given .1) at (start .pre .1 .1) in
     (start .pre .0, (start .pre .1 .0, (p .0 .0 .0, p .1)))
 
+device-write-requires : tie.Need-device-write-requires
+device-write-requires c κs =
+    let after-call3 : tie.After-call3 = search in let start : tie.Start = search in
+    let p = rw (after-call3 .call3 .given .1) at (start .pre .1 .1) in
+    (start .pre .0, (start .pre .1 .0, p .1))
+
 returns : tie.Need-returns
 unfolding called
 returns c =
@@ -39,9 +45,17 @@ returns-3 c =
     let p = rw (after-told .enum-told .given .1) at (start .pre .1 .1 .0 .1) in
     rw (after-told .enum-told .given .1, p, c .device-read .ensures, ← memory-word (start .pre .0) (start .pre .1 .0 .below) refl)
 
+returns-4 : tie.Need-returns-4
+unfolding called
+returns-4 c =
+    let after-device-write : tie.After-device-write = search in let after-call3 : tie.After-call3 = search in let start : tie.Start = search in
+    let p = rw (after-call3 .call3 .given .1) at (start .pre .1 .1 .0 .1) in
+    rw (after-call3 .call3 .given .1, p) (after-device-write .device-write .ensures)
+
 pub call-on-line-spec : {M : Type 1} → statement M
 call-on-line-spec =
     tie.close
     (tie.spec (λ c. search needs) access-line-requires (λ c. search needs) flush-line-requires (λ c. search needs) (λ c κs. search needs)
-    (λ c. search needs) (λ c. search needs) (λ c. search needs) (λ c. search needs) returns (λ c. search needs) (λ c. search needs)
-    (λ c. search needs) (λ c. search needs) returns-2 (λ c. search needs) returns-3)
+    (λ c. search needs) device-write-requires (λ c. search needs) (λ c. search needs) (λ c. search needs) (λ c. search needs) returns
+    (λ c. search needs) (λ c. search needs) (λ c. search needs) (λ c. search needs) returns-2 (λ c. search needs) returns-3 (λ c. search needs)
+    (λ c. search needs) (λ c. search needs) (λ c. search needs) returns-4)
