@@ -6,7 +6,7 @@
 
 /* State bytes and kinds of order. The bytes are read as they lie: the host is little-endian. */
 enum { I = 0, S_THROUGH = 1, E_THROUGH = 2, S_BACK = 9, E_BACK = 10, O = 11, M = 12 };
-enum { READ, WRITE, SWAP, FLUSH, DEVICE_READ };
+enum { READ, WRITE, SWAP, FLUSH, DEVICE_READ, DEVICE_WRITE };
 
 static uint64_t get8(const uint8_t *bytes)
 {
@@ -204,6 +204,15 @@ static uint8_t read_miss(struct tables *t, struct order *o, int shared, int owne
     return shared ? S_THROUGH : E_THROUGH;
 }
 
+/* The line's word for one who doesn't hold it: the owner's, else memory's. */
+static uint64_t fetch(struct tables *t, struct order *o, int owned, uint64_t owner)
+{
+    if (owned)
+        return get8(t->data + 8 * entry_of(t, owner));
+    o->reads = 1;
+    return get8(t->memory + 8 * t->line);
+}
+
 static void miss(struct tables *t, struct order *o, int shared, int owned, uint64_t owner)
 {
     uint64_t entry = entry_of(t, o->port), word;
@@ -211,12 +220,7 @@ static void miss(struct tables *t, struct order *o, int shared, int owned, uint6
 
     if (is_owner(t->states[entry]))
         store(t, o, get4(t->tags + 4 * entry) * t->sets + t->index, get8(t->data + 8 * entry));
-    if (owned) {
-        word = get8(t->data + 8 * entry_of(t, owner));
-    } else {
-        word = get8(t->memory + 8 * t->line);
-        o->reads = 1;
-    }
+    word = fetch(t, o, owned, owner);
     if (writes_at(o, word)) {
         tell_others(t, o->port, I, 0, 0);
         word = merge(word, o->operand, o->mask);
@@ -247,8 +251,15 @@ static void flush(struct tables *t, struct order *o)
     t->states[entry] = I;
 }
 
-/* The order by a port: one pass over the ports for refusal 8, other holders and the lowest owner; then the rules. */
-static uint64_t by_port(struct tables *t, struct order *o)
+/* A device is no port, so that every holder is another one. */
+static void device_write(struct tables *t, struct order *o, int owned, uint64_t owner)
+{
+    store(t, o, t->line, merge(fetch(t, o, owned, owner), o->operand, o->mask));
+    tell_others(t, t->ports, I, 0, 0);
+}
+
+/* One pass over the ports for refusal 8, other holders and the lowest owner; then the rules. */
+static uint64_t on_caches(struct tables *t, struct order *o)
 {
     int shared = 0, owned = 0;
     uint64_t owner = 0;
@@ -268,7 +279,9 @@ static uint64_t by_port(struct tables *t, struct order *o)
             owner = p;
         }
     }
-    if (o->kind == FLUSH)
+    if (o->kind == DEVICE_WRITE)
+        device_write(t, o, owned, owner);
+    else if (o->kind == FLUSH)
         flush(t, o);
     else if (holds(t, o->port))
         hit(t, o, shared, owned);
@@ -280,16 +293,16 @@ static uint64_t by_port(struct tables *t, struct order *o)
 /* Refusals 4 to 8, and the order carried out. */
 static uint64_t perform(struct tables *t, struct order *o)
 {
-    if (o->kind > DEVICE_READ)
+    if (o->kind > DEVICE_WRITE)
         return 4;
-    if (o->kind != DEVICE_READ && o->port >= t->ports)
+    if (o->kind < DEVICE_READ && o->port >= t->ports)
         return 5;
     if (t->line >= t->lines)
         return 6;
     if (o->kind == SWAP && o->mask != 0x0F && o->mask != 0xF0)
         return 7;
     if (o->kind != DEVICE_READ)
-        return by_port(t, o);
+        return on_caches(t, o);
     o->value = get8(t->memory + 8 * t->line);
     o->reads = 1;
     return 0;

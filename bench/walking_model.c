@@ -8,7 +8,7 @@
 enum { INVALID = 0, THROUGH_S = 1, THROUGH_E = 2, BACK_S = 9, BACK_E = 10, OWNED = 11, MODIFIED = 12 };
 
 /* Kinds of order. */
-enum { READ = 0, WRITE = 1, SWAP = 2, FLUSH = 3, DEVICE_READ = 4 };
+enum { READ = 0, WRITE = 1, SWAP = 2, FLUSH = 3, DEVICE_READ = 4, DEVICE_WRITE = 5 };
 
 enum { ANSWER_BYTES = 40, VERDICT_BYTES = 1, MAX_PORTS = 8 };
 
@@ -167,9 +167,9 @@ static inline uint64_t take_apart(struct walk *w, uint64_t word)
     w->mask = word >> 8 & 255;
     w->line = word >> 16 & 65535;
     w->compare = (uint32_t)(word >> 32);
-    if (w->kind > DEVICE_READ)
+    if (w->kind > DEVICE_WRITE)
         return 4;
-    if (w->kind != DEVICE_READ && w->port >= w->ports)
+    if (w->kind < DEVICE_READ && w->port >= w->ports)
         return 5;
     if (w->line >= w->lines)
         return 6;
@@ -286,6 +286,15 @@ static inline unsigned read_miss(struct walk *w, uint64_t word)
     return w->holders ? shared_in(w->mode) : exclusive_in(w->mode);
 }
 
+/* The line's word for one who doesn't hold it: the lowest-numbered owner's, else memory's. */
+static inline uint64_t fetch(struct walk *w)
+{
+    if (w->owners)
+        return load64(w->data + 8 * entry_of(w, (unsigned)__builtin_ctz(w->owners)));
+    w->reads = 1;
+    return load64(w->memory + 8 * (size_t)w->line);
+}
+
 static inline void miss(struct walk *w, size_t entry)
 {
     unsigned evicted = w->states[entry];
@@ -297,12 +306,7 @@ static inline void miss(struct walk *w, size_t entry)
 
         store_line(w, home, load64(w->data + 8 * entry));
     }
-    if (w->owners) {
-        word = load64(w->data + 8 * entry_of(w, (unsigned)__builtin_ctz(w->owners)));
-    } else {
-        word = load64(w->memory + 8 * (size_t)w->line);
-        w->reads = 1;
-    }
+    word = fetch(w);
     if (does_write(w, word)) {
         word = merge(word, w->operand, w->mask);
         state = w->mode ? MODIFIED : THROUGH_E;
@@ -342,6 +346,28 @@ static inline void flush(struct walk *w, size_t entry)
     w->states[entry] = INVALID;
 }
 
+/* The device's bytes go to memory with the rest of the line's word, and no port keeps a copy. */
+static inline void device_write(struct walk *w)
+{
+    store_line(w, w->line, merge(fetch(w), w->operand, w->mask));
+    set_all(w, w->holders, INVALID);
+}
+
+/* The order, after the walk over the ports. */
+static inline void carry_out(struct walk *w)
+{
+    size_t entry = entry_of(w, w->port);
+
+    if (w->kind == DEVICE_WRITE)
+        device_write(w);
+    else if (w->kind == FLUSH)
+        flush(w, entry);
+    else if (w->holders >> w->port & 1)
+        hit(w, entry);
+    else
+        miss(w, entry);
+}
+
 uint64_t walking_step(uint64_t ports, uint64_t sets, uint64_t lines,
                       uint64_t word, uint64_t operand,
                       uint8_t *memory, size_t memory_len,
@@ -352,7 +378,6 @@ uint64_t walking_step(uint64_t ports, uint64_t sets, uint64_t lines,
 {
     struct walk w;
     uint64_t refusal = check_slices(ports, sets, lines, memory_len, tags_len, states_len, data_len);
-    size_t entry;
 
     if (answer_len != ANSWER_BYTES)
         return refusal ? refusal : 3;
@@ -376,13 +401,7 @@ uint64_t walking_step(uint64_t ports, uint64_t sets, uint64_t lines,
     }
     if ((refusal = walk_ports(&w)))
         return refuse(answer, refusal);
-    entry = entry_of(&w, w.port);
-    if (w.kind == FLUSH)
-        flush(&w, entry);
-    else if (w.holders >> w.port & 1)
-        hit(&w, entry);
-    else
-        miss(&w, entry);
+    carry_out(&w);
     return answer_with(answer, 0, &w);
 }
 

@@ -1,4 +1,4 @@
-/* The flat memory: document 01's section of that name, a branch per sentence. */
+/* The flat memory: document 01's section of that name and 02's clause on it, a branch per sentence. */
 
 #include "flat_memory.h"
 
@@ -39,6 +39,13 @@ static void flat_swap(struct flat_memory *flat, struct second_order order, struc
     flat_write(flat, order);
 }
 
+/* Device write: "In the flat memory it merges into F and clears the mark". */
+static void flat_device_write(struct flat_memory *flat, struct second_order order)
+{
+    flat->words[order.line] = second_merge(flat->words[order.line], order.operand, order.mask);
+    flat->marks[order.line] = 0;
+}
+
 struct flat_answer flat_order(struct flat_memory *flat, uint64_t word, uint64_t operand)
 {
     struct second_order order = second_take_apart(word, operand);
@@ -59,6 +66,9 @@ struct flat_answer flat_order(struct flat_memory *flat, uint64_t word, uint64_t 
     case SECOND_DEVICE_READ:
         answer.value = flat->words[order.line];
         answer.compared_value = flat->marks[order.line] == 0;
+        break;
+    case SECOND_DEVICE_WRITE:
+        flat_device_write(flat, order);
         break;
     default: /* "Flush: nothing." */
         break;

@@ -1,4 +1,4 @@
-/* The flat memory of document 01: a word and a mark per line, fed only each order's word and operand. */
+/* The flat memory of documents 01 and 02: a word and a mark per line, fed only each order's word and operand. */
 
 #ifndef FLAT_MEMORY_H
 #define FLAT_MEMORY_H

@@ -50,6 +50,17 @@ static void say_flat_differs(struct pair *pair, const char *what, uint64_t flat,
              flat, model);
 }
 
+/* Counts an accepted device write, by the holders before it. */
+static void count_device_write(struct pair *pair, struct history_order order, unsigned holders)
+{
+    struct second_order fields = second_take_apart(order.word, order.operand);
+    struct tally *tally = &pair->tally;
+
+    tally->device_writes[pair->expected.reads == 0 ? 0 : holders > 0 ? 1 : 2]++;
+    tally->device_masks[fields.mask == 0x00 ? 0 : fields.mask == 0xFF ? 1 : 2]++;
+    tally->device_ports_beyond += fields.port >= pair->second.shape.ports;
+}
+
 /* Holds the answer of the step just made against the flat memory's. */
 static int agrees_with_flat(struct history *history, struct pair *pair, struct history_order order)
 {
@@ -74,6 +85,7 @@ static int agrees_with_flat(struct history *history, struct pair *pair, struct h
 int history_add(struct history *history, struct pair *pair, uint64_t word, uint64_t operand)
 {
     struct history_order order = {word, operand};
+    unsigned holders = second_holders(&pair->second, second_take_apart(word, operand).line);
 
     if (history->count < history->room)
         history->orders[history->count] = order;
@@ -82,6 +94,8 @@ int history_add(struct history *history, struct pair *pair, uint64_t word, uint6
         return 0;
     if (history->fresh && !agrees_with_flat(history, pair, order))
         return 0;
+    if (history->fresh && pair->expected.refusal == 0 && (word & 7) == SECOND_DEVICE_WRITE)
+        count_device_write(pair, order, holders);
     return history->count % history->audit_every != 0 || audit(history, pair);
 }
 
@@ -168,7 +182,8 @@ void history_shrink(struct history *history, struct pair *pair)
 
 static void print_order(const struct history *history, size_t k)
 {
-    static const char *const kinds[8] = {"read", "write", "swap", "flush", "device read", "kind 5", "kind 6", "kind 7"};
+    static const char *const kinds[8] = {"read",        "write",        "swap",   "flush",
+                                         "device read", "device write", "kind 6", "kind 7"};
     struct second_order order = second_take_apart(history->orders[k].word, history->orders[k].operand);
 
     printf("  order %zu: word 0x%" PRIx64 " operand 0x%" PRIx64 " (port %u %s line %u %s, mask 0x%02x, compare 0x%x)\n",

@@ -29,13 +29,17 @@ struct tally {
     uint64_t fresh_refusals[9];
     uint64_t step_refusals[9];
     uint64_t audit_refusals[9];
-    uint64_t kinds[5];
+    uint64_t kinds[SECOND_KINDS];
     uint64_t swapped;
     uint64_t reads[2];
     uint64_t writes[3];
     uint64_t verdicts[2];
+    /* In histories from fresh. */
     uint64_t devices_compared;
     uint64_t devices_not_compared;
+    uint64_t device_writes[3];    /* merged from an owner's word, from memory's with holders, and without */
+    uint64_t device_masks[3];     /* 0x00, 0xFF, any other */
+    uint64_t device_ports_beyond; /* device writes with a port field that no port has */
 };
 
 struct pair {

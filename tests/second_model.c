@@ -1,4 +1,4 @@
-/* The second model: lists the holders of a line, follows document 01's sentences on the list, puts it back. */
+/* The second model: lists the holders of a line, follows the papers' sentences on the list, puts it back. */
 
 #include "second_model.h"
 
@@ -38,11 +38,18 @@ struct second_order second_take_apart(uint64_t word, uint64_t operand)
     return order;
 }
 
+/* "flush has no mode, device read no port", and of a device write "port, mode and compare value are ignored". */
+static int has_port(struct second_order order)
+{
+    return order.kind != SECOND_DEVICE_READ && order.kind != SECOND_DEVICE_WRITE;
+}
+
 uint64_t second_order_refusal(struct second_shape shape, struct second_order order)
 {
-    if (order.kind == 5 || order.kind == 6 || order.kind == 7)
+    /* "Refusal 4 is left for kinds 6 and 7." */
+    if (order.kind == 6 || order.kind == 7)
         return 4;
-    if (order.kind != SECOND_DEVICE_READ && !(order.port < shape.ports))
+    if (has_port(order) && !(order.port < shape.ports))
         return 5;
     if (!(order.line < shape.lines))
         return 6;
@@ -195,6 +202,12 @@ static void become(struct holder *holder, char letter, enum second_mode mode)
     holder->status.mode = mode;
 }
 
+static void all_become_invalid(struct holding *holding)
+{
+    for (unsigned k = 0; k < holding->count; k++)
+        become(&holding->holders[k], 'I', SECOND_THROUGH);
+}
+
 static void store(struct second_model *model, uint64_t line, uint64_t word, struct second_answer *answer)
 {
     model->memory[line] = word;
@@ -258,12 +271,6 @@ static void write_hit(struct second_model *model, struct holding *holding, struc
 
 /* Misses. "others" are all the holders of the list, for the port is none of them. */
 
-static void others_become_invalid(struct holding *others)
-{
-    for (unsigned k = 0; k < others->count; k++)
-        become(&others->holders[k], 'I', SECOND_THROUGH);
-}
-
 /* "if i's entry is O or M for another line, its word is first stored at that line." */
 static void evict(struct second_model *model, unsigned entry, struct second_answer *answer)
 {
@@ -300,7 +307,7 @@ static void read_miss(struct second_model *model, struct holding *others, struct
 static void write_miss(struct second_model *model, struct holding *others, struct holder *own,
                        struct second_order order, struct second_answer *answer)
 {
-    others_become_invalid(others);
+    all_become_invalid(others);
     own->word = second_merge(own->word, order.operand, order.mask);
     if (order.mode == SECOND_BACK) {
         become(own, 'M', SECOND_BACK);
@@ -317,7 +324,7 @@ static void failed_swap_miss(struct second_model *model, struct holding *others,
 {
     int from_owner = lowest_owner(others) != NULL;
 
-    others_become_invalid(others);
+    all_become_invalid(others);
     if (from_owner && mode == SECOND_BACK) {
         become(own, 'M', SECOND_BACK);
     } else if (from_owner) {
@@ -390,6 +397,41 @@ static void flush(struct second_model *model, struct holding *holding, struct ho
     put_holders_back(model, holding);
 }
 
+/* An order by a port. */
+static void by_port(struct second_model *model, struct holding *holding, struct second_order order,
+                    struct second_answer *answer)
+{
+    struct holder *own = own_holder(holding, order.port);
+
+    if (order.kind == SECOND_FLUSH)
+        flush(model, holding, own, answer);
+    else if (own != NULL)
+        hit(model, holding, own, order, answer);
+    else
+        miss(model, holding, order, answer);
+}
+
+/* Document 02's order 1. */
+
+/* "The lowest-numbered owner's word, or memory's if there is no owner, is merged and stored in memory, and every holder
+   becomes I. A merge from memory counts one read; the store counts one write." */
+static void device_write(struct second_model *model, struct holding *holding, struct second_order order,
+                         struct second_answer *answer)
+{
+    const struct holder *owner = lowest_owner(holding);
+    uint64_t word;
+
+    if (owner != NULL) {
+        word = owner->word;
+    } else {
+        word = model->memory[order.line];
+        answer->reads++;
+    }
+    store(model, order.line, second_merge(word, order.operand, order.mask), answer);
+    all_become_invalid(holding);
+    put_holders_back(model, holding);
+}
+
 /* The three calls. */
 
 void second_fresh(struct second_model *model)
@@ -401,7 +443,7 @@ void second_fresh(struct second_model *model)
     }
 }
 
-/* Refusal 8, for kinds 0 to 3. */
+/* Refusal 8, "for kinds 0 to 3"; of device writes document 02 says that "refusals 6 and 8 apply". */
 static int index_is_sound(const struct second_model *model, unsigned line)
 {
     for (unsigned port = 0; port < model->shape.ports; port++) {
@@ -416,7 +458,6 @@ struct second_answer second_step(struct second_model *model, uint64_t word, uint
     struct second_order order = second_take_apart(word, operand);
     struct second_answer answer = {second_order_refusal(model->shape, order), 0, 0, 0, 0};
     struct holding holding;
-    struct holder *own;
 
     if (answer.refusal != 0)
         return answer;
@@ -430,14 +471,19 @@ struct second_answer second_step(struct second_model *model, uint64_t word, uint
         return answer;
     }
     list_holders(model, order.line, &holding);
-    own = own_holder(&holding, order.port);
-    if (order.kind == SECOND_FLUSH)
-        flush(model, &holding, own, &answer);
-    else if (own != NULL)
-        hit(model, &holding, own, order, &answer);
+    if (order.kind == SECOND_DEVICE_WRITE)
+        device_write(model, &holding, order, &answer);
     else
-        miss(model, &holding, order, &answer);
+        by_port(model, &holding, order, &answer);
     return answer;
+}
+
+unsigned second_holders(const struct second_model *model, unsigned line)
+{
+    struct holding holding;
+
+    list_holders(model, line, &holding);
+    return holding.count;
 }
 
 /* The audit. */

@@ -1,4 +1,4 @@
-/* The second model: document 01 in plain C, a line and its holders at a time, on arrays of its own. */
+/* The second model: documents 01 and 02 (order 1) in plain C, a line and its holders at a time, on arrays of its own. */
 
 #ifndef SECOND_MODEL_H
 #define SECOND_MODEL_H
@@ -39,7 +39,15 @@ struct second_model {
     uint64_t data[SECOND_MAX_ENTRIES];
 };
 
-enum second_kind { SECOND_READ, SECOND_WRITE, SECOND_SWAP, SECOND_FLUSH, SECOND_DEVICE_READ };
+enum second_kind {
+    SECOND_READ,
+    SECOND_WRITE,
+    SECOND_SWAP,
+    SECOND_FLUSH,
+    SECOND_DEVICE_READ,
+    SECOND_DEVICE_WRITE,
+    SECOND_KINDS
+};
 
 enum second_mode { SECOND_THROUGH, SECOND_BACK };
 
@@ -84,6 +92,9 @@ struct second_lengths second_lengths_of(struct second_shape shape, size_t result
 void second_fresh(struct second_model *model);
 struct second_answer second_step(struct second_model *model, uint64_t word, uint64_t operand);
 int second_audit(const struct second_model *model);
+
+/* How many ports hold the line, at an index whose entries are sound. */
+unsigned second_holders(const struct second_model *model, unsigned line);
 
 /* Little-endian bytes of the slices and the answer, decoded and encoded. */
 void second_decode(struct second_model *model, const uint8_t *memory, const uint8_t *tags, const uint8_t *states,

@@ -16,7 +16,7 @@ EXAMPLE = b"""ports 2 sets 1 lines 2 orders 3
 audit 1
 """
 
-READ, WRITE, SWAP, FLUSH, DEVICE_READ = range(5)
+READ, WRITE, SWAP, FLUSH, DEVICE_READ, DEVICE_WRITE = range(6)
 MOST_ORDERS = 2048
 
 
@@ -33,12 +33,15 @@ def trace(ports, sets, lines, orders, said=None):
 
 
 def random_order(generator, ports, sets, lines):
-    kind = generator.choices(range(8), (20, 20, 20, 8, 12, 1, 1, 1))[0]
+    kind = generator.choices(range(8), (20, 20, 20, 8, 12, 12, 1, 1))[0]
     port = generator.randrange(ports) if generator.random() < 0.95 else generator.randrange(16)
     line = generator.randrange(min(lines, 2 * sets + 2)) if generator.random() < 0.8 else generator.randrange(lines)
     if generator.random() < 0.03:
         line = generator.randrange(65536)
     mask = generator.choice((0x0F, 0xF0)) if kind == SWAP and generator.random() < 0.95 else generator.randrange(256)
+    if kind in (DEVICE_READ, DEVICE_WRITE):
+        port = generator.randrange(16)
+        mask = generator.choice((0, 0xFF, mask))
     compare = generator.choice((0, 0, 1, 2, generator.getrandbits(32)))
     operand = generator.choice((0, 1, 1 << 32, 2, generator.getrandbits(64)))
     return word(kind, generator.randrange(2), port, mask, line, compare), operand
@@ -141,15 +144,18 @@ def shapes(tester):
 
 def orders(tester, generator):
     """Orders that are refused, and the numbers of orders at their ends."""
-    refused = [(word(5), 0), (word(6), 0), (word(7), 0), (word(READ, port=2), 0), (word(FLUSH, port=15), 0),
+    refused = [(word(6), 0), (word(7), 0), (word(READ, port=2), 0), (word(FLUSH, port=15), 0),
                (word(READ, line=2), 0), (word(DEVICE_READ, port=15, line=65535), 0), (word(SWAP, mask=0xFF), 0),
                (word(SWAP, mask=0x0E), 0), (word(7, port=9, mask=3, line=9), 0), (word(SWAP, port=9, mask=3, line=9), 0),
-               (word(SWAP, port=1, mask=3, line=9), 0), (word(DEVICE_READ, port=15), 0)]
-    numbers = [4, 4, 4, 5, 5, 6, 6, 7, 7, 4, 5, 6]
-    literal = "ports 2 sets 1 lines 2 orders 13\n"
+               (word(SWAP, port=1, mask=3, line=9), 0), (word(DEVICE_WRITE, line=2), 0),
+               (word(DEVICE_WRITE, port=15, mask=3, line=9), 0), (word(6, port=15, line=9), 0)]
+    numbers = [4, 4, 5, 5, 6, 6, 7, 7, 4, 5, 6, 6, 6, 4]
+    accepted = [(word(DEVICE_READ, port=15), 0), (word(DEVICE_WRITE, port=15, mask=3), 0)]
+    literal = "ports 2 sets 1 lines 2 orders 16\n"
     literal += "".join(f"{k + 1} {number} 0 0 0 0\n" for k, number in enumerate(numbers))
-    literal += "13 0 0 0 1 0\naudit 1\n"
-    tester.test("orders refused 4, 5, 6 and 7", [tester.agrees(trace(2, 1, 2, refused), literal.encode())])
+    literal += "15 0 0 0 1 0\n16 0 0 0 1 1\naudit 1\n"
+    tester.test("orders refused 4, 5, 6 and 7",
+                [tester.agrees(trace(2, 1, 2, refused + accepted), literal.encode())])
     tester.test("no orders", (tester.agrees(trace(*shape, []), b"ports %d sets %d lines %d orders 0\naudit 1\n" % shape)
                               for shape in ((1, 1, 1), (2, 1, 2), (8, 64, 4096))))
     tester.test("2,048 orders", (tester.agrees(random_trace(generator, MOST_ORDERS)) for _ in range(6)))
@@ -157,6 +163,19 @@ def orders(tester, generator):
     tester.test("the largest numbers",
                 [tester.agrees(trace(1, 1, 1, [(word(WRITE, 1, mask=0xFF), largest), (0, 0)]),
                                b"ports 1 sets 1 lines 1 orders 2\n1 0 0 0 1 0\n2 0 18446744073709551615 0 0 1\naudit 1\n")])
+
+
+def device_writes(tester):
+    """Onto a line that nobody holds, that a port owns and that two ports share; then ports read the device's bytes."""
+    listed = [(word(DEVICE_WRITE, mask=0xFF), 0x0201), (word(WRITE, 1, 0, 0xFF), 0x0403), (word(DEVICE_READ), 0),
+              (word(DEVICE_WRITE, 1, 15, 0x01, compare=9), 0x0605), (word(DEVICE_READ), 0), (word(READ, 1, 1), 0),
+              (word(READ, 0, 0), 0), (word(DEVICE_WRITE, mask=0x02), 0x0807), (word(READ, 1, 1), 0),
+              (word(DEVICE_WRITE, mask=0x00, line=1), 0x0807), (word(READ, 0, 0, line=1), 0)]
+    answers = ["0 0 1 1", "0 0 1 0", f"{0x0201} 0 1 0", "0 0 0 1", f"{0x0405} 0 1 0", f"{0x0405} 0 1 0",
+               f"{0x0405} 0 1 0", "0 0 1 1", f"{0x0805} 0 1 0", "0 0 1 1", "0 0 1 0"]
+    literal = "ports 2 sets 1 lines 2 orders 11\n"
+    literal += "".join(f"{k + 1} 0 {answer}\n" for k, answer in enumerate(answers)) + "audit 1\n"
+    tester.test("device writes", [tester.agrees(trace(2, 1, 2, listed), literal.encode())])
 
 
 def main():
@@ -183,6 +202,7 @@ def main():
                     (tester.in_pieces(data, size, 0.002) for data in (example, example[:40], random_trace(generator, 20))
                      for size in (1, 7, 16)))
     orders(tester, generator)
+    device_writes(tester)
     tester.test("random traces", (tester.agrees(random_trace(generator)) for _ in range(chosen.random)))
     print(f"  {tester.runs} traces, seed {chosen.seed}")
     sys.exit(tester.failed != 0)

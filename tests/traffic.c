@@ -60,7 +60,7 @@ void traffic_begin(struct traffic *traffic, struct generator *generator, struct 
     traffic->back_percent = percents[generator_below(generator, 5)];
     traffic->odd_percent = generator_percent(generator, 50) ? 2 : 15;
     traffic->wide_percent = generator_percent(generator, 50) ? 10 : 60;
-    for (unsigned k = 0; k < 5; k++)
+    for (unsigned k = 0; k < SECOND_KINDS; k++)
         traffic->weights[k] = 1 + generator_below(generator, 8);
 }
 
@@ -103,7 +103,7 @@ static unsigned usual_kind(const struct traffic *traffic, struct generator *gene
 {
     unsigned total = 0, kind = 0, thrown;
 
-    for (unsigned k = 0; k < 5; k++)
+    for (unsigned k = 0; k < SECOND_KINDS; k++)
         total += traffic->weights[k];
     thrown = generator_below(generator, total);
     while (thrown >= traffic->weights[kind])
@@ -140,7 +140,7 @@ static uint64_t usual_compare(struct generator *generator, const struct second_m
 static uint64_t odd_order(const struct traffic *traffic, struct generator *generator)
 {
     unsigned wrong = generator_below(generator, 16);
-    uint64_t kind = wrong & 1 ? 5 + generator_below(generator, 3) : generator_below(generator, 5);
+    uint64_t kind = wrong & 1 ? 6 + generator_below(generator, 2) : generator_below(generator, SECOND_KINDS);
     uint64_t port = generator_below(generator, traffic->shape.ports);
     uint64_t line = usual_line(traffic, generator);
     uint64_t mask = generator_percent(generator, 50) ? 0x0F : 0xF0;
@@ -172,8 +172,10 @@ uint64_t traffic_order(const struct traffic *traffic, struct generator *generato
     mask = usual_mask(generator, kind);
     compare = kind == SECOND_SWAP ? usual_compare(generator, model, line, mask) : generator_word(generator) >> 32;
     /* Fields that the kind doesn't use hold anything. */
-    if (kind == SECOND_DEVICE_READ)
+    if (kind == SECOND_DEVICE_READ || kind == SECOND_DEVICE_WRITE) {
+        mode = generator_below(generator, 2);
         port = generator_below(generator, 16);
+    }
     return traffic_word(kind, mode, port, mask, line, compare);
 }
 

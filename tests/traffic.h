@@ -15,7 +15,7 @@ struct traffic {
     unsigned back_percent; /* orders in write back */
     unsigned odd_percent;  /* orders with a field out of its range */
     unsigned wide_percent; /* operands and words from all 64 bits, not few values */
-    unsigned weights[5];   /* of the five kinds */
+    unsigned weights[SECOND_KINDS]; /* of the kinds */
 };
 
 /* A shape of few entries, so that conflicts and evictions are frequent. */
