@@ -110,13 +110,12 @@ static int is_as_listed(struct tester *tester, size_t k)
     return history_end(&tester->history, pair);
 }
 
-static int fourteen_orders(struct tester *tester, uint64_t run)
+/* Two ports, one set, two lines, memory 5 and 7. */
+static int begin_at_five_and_seven(struct tester *tester)
 {
     static const struct second_shape shape = {2, 1, 2};
     struct history *history = &tester->history;
-    size_t k = 0;
 
-    (void)run;
     history->start.shape = shape;
     traffic_fill_tables(&tester->generator, &history->start);
     history->start.memory[0] = 5;
@@ -124,12 +123,20 @@ static int fourteen_orders(struct tester *tester, uint64_t run)
     history->fresh = 1;
     history->audit_every = 100;
     history->skew = 0;
-    if (history_begin(history, &tester->pair)) {
+    return history_begin(history, &tester->pair);
+}
+
+static int fourteen_orders(struct tester *tester, uint64_t run)
+{
+    size_t k = 0;
+
+    (void)run;
+    if (begin_at_five_and_seven(tester)) {
         while (k < 14 && is_as_listed(tester, k))
             k++;
     }
     if (k < 14)
-        history_print(history, &tester->pair);
+        history_print(&tester->history, &tester->pair);
     return k == 14;
 }
 
@@ -167,7 +174,7 @@ static void fill_words(struct second_model *model, int distinct)
 }
 
 /* One order on the table in start. The table is lent anew for each order. */
-static int try_order(struct tester *tester, uint64_t word)
+static int add_to_start(struct tester *tester, uint64_t word, uint64_t operand)
 {
     struct history *history = &tester->history;
 
@@ -176,9 +183,14 @@ static int try_order(struct tester *tester, uint64_t word)
     tester->pair.second = history->start;
     pair_lend(&tester->pair, (unsigned)(word & 7));
     history->count = 0;
-    if (history_add(history, &tester->pair, word, UINT64_C(0x3333333322222222)))
+    return history_add(history, &tester->pair, word, operand);
+}
+
+static int try_order(struct tester *tester, uint64_t word)
+{
+    if (add_to_start(tester, word, UINT64_C(0x3333333322222222)))
         return 1;
-    history_print(history, &tester->pair);
+    history_print(&tester->history, &tester->pair);
     return 0;
 }
 
@@ -207,6 +219,18 @@ static int try_orders(struct tester *tester, unsigned port, unsigned line, unsig
            try_swaps(tester, port, line, mode);
 }
 
+/* Device writes of all bytes, of none and of some. What they ignore, port, mode and compare value, holds anything. */
+static int try_device_writes(struct tester *tester, unsigned line)
+{
+    static const unsigned masks[4] = {0xFF, 0x00, 0x3C, 0x81};
+
+    for (unsigned k = 0; k < 4; k++) {
+        if (!try_order(tester, traffic_word(SECOND_DEVICE_WRITE, k % 2, 5 * k, masks[k], line, 0x55555555 * k)))
+            return 0;
+    }
+    return 1;
+}
+
 static int try_audit(struct tester *tester, int distinct)
 {
     fill_words(&tester->history.start, distinct);
@@ -230,7 +254,7 @@ static int try_table(struct tester *tester)
         if (!try_orders(tester, k / 4, k / 2 % 2, k % 2))
             return 0;
     }
-    return 1;
+    return try_device_writes(tester, 0) && try_device_writes(tester, 1);
 }
 
 /* In a short run only some tables of three and four ports: a stride prime to the number of choices, so that every entry
@@ -301,6 +325,21 @@ static int report_history(struct tester *tester)
     return 0;
 }
 
+/* Adds random orders to a history that has begun. */
+static int add_orders(struct tester *tester, size_t orders)
+{
+    struct pair *pair = &tester->pair;
+
+    for (size_t k = 0; k < orders; k++) {
+        uint64_t word = traffic_order(&tester->traffic, &tester->generator, &pair->second);
+        uint64_t operand = traffic_operand(&tester->traffic, &tester->generator);
+
+        if (!history_add(&tester->history, pair, word, operand))
+            return 0;
+    }
+    return 1;
+}
+
 /* Carries out orders from history.start. */
 static int run_history(struct tester *tester, int fresh, size_t orders)
 {
@@ -308,16 +347,9 @@ static int run_history(struct tester *tester, int fresh, size_t orders)
     struct history *history = &tester->history;
 
     history->fresh = fresh;
-    if (!history_begin(history, pair))
-        return report_history(tester);
-    for (size_t k = 0; k < orders; k++) {
-        uint64_t word = traffic_order(&tester->traffic, &tester->generator, &pair->second);
-        uint64_t operand = traffic_operand(&tester->traffic, &tester->generator);
-
-        if (!history_add(history, pair, word, operand))
-            return report_history(tester);
-    }
-    return history_end(history, pair) || report_history(tester);
+    if (history_begin(history, pair) && add_orders(tester, orders) && history_end(history, pair))
+        return 1;
+    return report_history(tester);
 }
 
 static int fresh_history(struct tester *tester, struct second_shape shape, size_t orders)
@@ -379,6 +411,313 @@ static int noise(struct tester *tester, uint64_t run)
     return run_history(tester, 0, 10 + generator_below(&tester->generator, 30));
 }
 
+/* Device writes, number by number, worked out by hand from documents 01 and 02. */
+
+struct entry {
+    unsigned state;
+    uint32_t tag;
+    uint64_t data;
+};
+
+/* An order at the shape 2/1/2, its answer, and every entry and word of memory after it. */
+struct device_literal {
+    uint64_t word, operand;
+    struct second_answer answer;
+    struct entry entries[2]; /* of ports 0 and 1 */
+    uint64_t memory[2];
+};
+
+/* From fresh on memory 5 and 7. A device write is a word that ends in 5 or, under mode 1, in D. */
+static const struct device_literal device_list[] = {
+    /* Nobody holds the line: the word is memory's, and its read counts under every mask. Port, mode and compare value
+       of the second one are ignored. */
+    {0xFF05, 0x0807060504030201, {0, 0, 0, 1, 1}, {{0, 0, 0}, {0, 0, 0}}, {0x0807060504030201, 7}},
+    {0xFFFFFFFF000081FD, 0xA8A7A6A5A4A3A2A1, {0, 0, 0, 1, 1}, {{0, 0, 0}, {0, 0, 0}}, {0xA8070605040302A1, 7}},
+    {0x10005, 0xA8A7A6A5A4A3A2A1, {0, 0, 0, 1, 1}, {{0, 0, 0}, {0, 0, 0}}, {0xA8070605040302A1, 7}},
+    /* Port 0 holds it in E, which is no owner; then port 1 does. The copies become I, and keep tag and data. */
+    {0x08, 0, {0, 0xA8070605040302A1, 0, 1, 0}, {{10, 0, 0xA8070605040302A1}, {0, 0, 0}}, {0xA8070605040302A1, 7}},
+    {0xF005, 0xB8B7B6B5B4B3B2B1, {0, 0, 0, 1, 1}, {{0, 0, 0xA8070605040302A1}, {0, 0, 0}}, {0xB8B7B6B5040302A1, 7}},
+    {0x04, 0, {0, 0xB8B7B6B5040302A1, 0, 1, 0}, {{0, 0, 0xA8070605040302A1}, {0, 0, 0}}, {0xB8B7B6B5040302A1, 7}},
+    {0xFF05, 0x10, {0, 0, 0, 1, 1}, {{0, 0, 0xA8070605040302A1}, {0, 0, 0}}, {0x10, 7}},
+    {0x18, 0, {0, 0x10, 0, 1, 0}, {{0, 0, 0xA8070605040302A1}, {10, 0, 0x10}}, {0x10, 7}},
+    {0xFF05, 0x11, {0, 0, 0, 1, 1}, {{0, 0, 0xA8070605040302A1}, {0, 0, 0x10}}, {0x11, 7}},
+    /* Both hold it in S, in write through. */
+    {0x00, 0, {0, 0x11, 0, 1, 0}, {{2, 0, 0x11}, {0, 0, 0x10}}, {0x11, 7}},
+    {0x10, 0, {0, 0x11, 0, 1, 0}, {{1, 0, 0x11}, {1, 0, 0x11}}, {0x11, 7}},
+    {0x0205, 0x2233, {0, 0, 0, 1, 1}, {{0, 0, 0x11}, {0, 0, 0x11}}, {0x2211, 7}},
+    /* Both hold it in S, in write back; no byte is the device's. */
+    {0x08, 0, {0, 0x2211, 0, 1, 0}, {{10, 0, 0x2211}, {0, 0, 0x11}}, {0x2211, 7}},
+    {0x18, 0, {0, 0x2211, 0, 1, 0}, {{9, 0, 0x2211}, {9, 0, 0x2211}}, {0x2211, 7}},
+    {0x0D, 0xFFFF, {0, 0, 0, 1, 1}, {{0, 0, 0x2211}, {0, 0, 0x2211}}, {0x2211, 7}},
+    /* Port 1 holds it in O and port 0 in S: the owner's word is merged, and memory is not read. */
+    {0x08, 0, {0, 0x2211, 0, 1, 0}, {{10, 0, 0x2211}, {0, 0, 0x2211}}, {0x2211, 7}},
+    {0x18, 0, {0, 0x2211, 0, 1, 0}, {{9, 0, 0x2211}, {9, 0, 0x2211}}, {0x2211, 7}},
+    {0xFF19, 0x4455, {0, 0, 0, 0, 0}, {{9, 0, 0x4455}, {11, 0, 0x4455}}, {0x2211, 7}},
+    {0x0205, 0x6677, {0, 0, 0, 0, 1}, {{0, 0, 0x4455}, {0, 0, 0x4455}}, {0x6655, 7}},
+    /* Then the device and both ports read it. */
+    {0x04, 0, {0, 0x6655, 0, 1, 0}, {{0, 0, 0x4455}, {0, 0, 0x4455}}, {0x6655, 7}},
+    {0x18, 0, {0, 0x6655, 0, 1, 0}, {{0, 0, 0x4455}, {10, 0, 0x6655}}, {0x6655, 7}},
+    {0x00, 0, {0, 0x6655, 0, 1, 0}, {{1, 0, 0x6655}, {1, 0, 0x6655}}, {0x6655, 7}},
+    /* Port 0 holds line 1 in M; port 1's entry at the index is of line 0, and stays. */
+    {0x1FF09, 0x700, {0, 0, 0, 1, 0}, {{12, 1, 0x700}, {1, 0, 0x6655}}, {0x6655, 7}},
+    {0x10105, 0x88, {0, 0, 0, 0, 1}, {{0, 1, 0x700}, {1, 0, 0x6655}}, {0x6655, 0x788}},
+    /* Port 0 holds line 0 in M, and keeps it at a device write to line 1; under mask 0 the owner's word is stored. */
+    {0xFF09, 0x900, {0, 0, 0, 1, 0}, {{12, 0, 0x900}, {0, 0, 0x6655}}, {0x6655, 0x788}},
+    {0x1FF05, 0xAA, {0, 0, 0, 1, 1}, {{12, 0, 0x900}, {0, 0, 0x6655}}, {0x6655, 0xAA}},
+    {0x05, 0xFFFF, {0, 0, 0, 0, 1}, {{0, 0, 0x900}, {0, 0, 0x6655}}, {0x900, 0xAA}},
+    /* Port 1 holds it in M, and all bytes are the device's. A swap finds them, and a flush stores over them. */
+    {0xFF19, 0xB00, {0, 0, 0, 1, 0}, {{0, 0, 0x900}, {12, 0, 0xB00}}, {0x900, 0xAA}},
+    {0xFF05, 0xC00, {0, 0, 0, 0, 1}, {{0, 0, 0x900}, {0, 0, 0xB00}}, {0xC00, 0xAA}},
+    {0x00000C0000000F1A, 0xD, {0, 0xC00, 1, 1, 0}, {{0, 0, 0x900}, {12, 0, 0xD}}, {0xC00, 0xAA}},
+    {0x13, 0, {0, 0, 0, 0, 1}, {{0, 0, 0x900}, {0, 0, 0xD}}, {0xD, 0xAA}},
+    /* A line that there isn't is refused, whatever the port; kinds 6 and 7 come before that. */
+    {0x2FF05, 0xEE, {6, 0, 0, 0, 0}, {{0, 0, 0x900}, {0, 0, 0xD}}, {0xD, 0xAA}},
+    {0x2FFF5, 0xEE, {6, 0, 0, 0, 0}, {{0, 0, 0x900}, {0, 0, 0xD}}, {0xD, 0xAA}},
+    {0xFFFFFFFFFFFFFFFD, 0xEE, {6, 0, 0, 0, 0}, {{0, 0, 0x900}, {0, 0, 0xD}}, {0xD, 0xAA}},
+    {0xFF06, 0xEE, {4, 0, 0, 0, 0}, {{0, 0, 0x900}, {0, 0, 0xD}}, {0xD, 0xAA}},
+    {0xFF07, 0xEE, {4, 0, 0, 0, 0}, {{0, 0, 0x900}, {0, 0, 0xD}}, {0xD, 0xAA}},
+    {0x2FF06, 0xEE, {4, 0, 0, 0, 0}, {{0, 0, 0x900}, {0, 0, 0xD}}, {0xD, 0xAA}},
+    {0xFFFFFFFFFFFFFFFF, 0xEE, {4, 0, 0, 0, 0}, {{0, 0, 0x900}, {0, 0, 0xD}}, {0xD, 0xAA}},
+    /* A port that there isn't is not refused. */
+    {0xFFF5, 0xEE, {0, 0, 0, 1, 1}, {{0, 0, 0x900}, {0, 0, 0xD}}, {0xEE, 0xAA}},
+    {0x01FF2D, 0xEE, {0, 0, 0, 1, 1}, {{0, 0, 0x900}, {0, 0, 0xD}}, {0xEE, 0xEE}},
+};
+
+enum { DEVICE_ORDERS = sizeof device_list / sizeof device_list[0] };
+
+/* The lent bytes as numbers. */
+static const struct second_model *lent_numbers(const struct pair *pair)
+{
+    static struct second_model lent;
+
+    lent.shape = pair->second.shape;
+    second_decode(&lent, pair->slices[MEMORY].bytes, pair->slices[TAGS].bytes, pair->slices[STATES].bytes,
+                  pair->slices[DATA].bytes);
+    return &lent;
+}
+
+static int answer_is(const struct pair *pair, const struct second_answer *answer)
+{
+    struct second_answer given = second_decode_answer(pair->slices[RESULT].bytes);
+
+    return memcmp(&given, answer, sizeof given) == 0;
+}
+
+static int is_device_literal(const struct tester *tester, const struct device_literal *literal)
+{
+    const struct second_model *lent = lent_numbers(&tester->pair);
+    const struct flat_memory *flat = &tester->history.flat;
+    unsigned line = (unsigned)(literal->word >> 16 & 65535);
+
+    for (unsigned port = 0; port < 2; port++) {
+        const struct entry *entry = &literal->entries[port];
+
+        if (lent->states[port] != entry->state || lent->tags[port] != entry->tag || lent->data[port] != entry->data)
+            return 0;
+    }
+    if (memcmp(lent->memory, literal->memory, sizeof literal->memory) != 0)
+        return 0;
+    /* The flat memory has the same word after a device write, under mark 0. */
+    if ((literal->word & 7) == SECOND_DEVICE_WRITE && literal->answer.refusal == 0 &&
+        (flat->words[line] != literal->memory[line] || flat->marks[line] != 0))
+        return 0;
+    return answer_is(&tester->pair, &literal->answer);
+}
+
+/* Carries one of the list out and holds it against the list; the audit says yes after it. */
+static int is_as_worked_out(struct tester *tester, size_t k)
+{
+    struct pair *pair = &tester->pair;
+
+    if (!history_add(&tester->history, pair, device_list[k].word, device_list[k].operand))
+        return 0;
+    if (!is_device_literal(tester, &device_list[k])) {
+        snprintf(pair->difference, sizeof pair->difference, "  order %zu of the list is not as worked out\n", k + 1);
+        return 0;
+    }
+    return history_end(&tester->history, pair);
+}
+
+static int device_orders(struct tester *tester)
+{
+    size_t k = 0;
+
+    if (begin_at_five_and_seven(tester)) {
+        while (k < DEVICE_ORDERS && is_as_worked_out(tester, k))
+            k++;
+    }
+    if (k < DEVICE_ORDERS)
+        history_print(&tester->history, &tester->pair);
+    return k == DEVICE_ORDERS;
+}
+
+/* One order on tables that no history leads to. Entry k has the word 0x1100 * (k + 1), and memory 5, 7, 11 and 13. */
+struct device_case {
+    struct second_shape shape;
+    unsigned states[4];
+    uint32_t tags[4];
+    uint64_t word; /* the operand is 0xFF */
+    struct second_answer answer;
+    unsigned after[4];  /* the states; tags and data stay */
+    uint64_t memory[2]; /* afterwards; the other lines stay */
+};
+
+static const struct device_case device_case_list[] = {
+    /* Of several owners the lowest-numbered one gives the word, and every holder becomes I. */
+    {{3, 1, 2}, {9, 11, 12}, {0, 0, 0}, 0x0105, {0, 0, 0, 0, 1}, {0, 0, 0}, {0x22FF, 7}},
+    {{3, 1, 2}, {12, 12, 11}, {0, 0, 0}, 0x0105, {0, 0, 0, 0, 1}, {0, 0, 0}, {0x11FF, 7}},
+    {{3, 1, 2}, {10, 2, 12}, {0, 0, 0}, 0x0105, {0, 0, 0, 0, 1}, {0, 0, 0}, {0x33FF, 7}},
+    {{4, 1, 2}, {2, 11, 11, 11}, {0, 0, 0, 0}, 0x0005, {0, 0, 0, 0, 1}, {0, 0, 0, 0}, {0x2200, 7}},
+    /* Owners of another line don't count, nor do entries in I, and both stay. */
+    {{3, 1, 2}, {12, 11, 9}, {1, 0, 0}, 0x0105, {0, 0, 0, 0, 1}, {12, 0, 0}, {0x22FF, 7}},
+    {{3, 1, 2}, {11, 9, 12}, {1, 0, 1}, 0x10105, {0, 0, 0, 0, 1}, {0, 9, 0}, {5, 0x11FF}},
+    {{3, 1, 2}, {0, 12, 12}, {0, 1, 0}, 0x0105, {0, 0, 0, 0, 1}, {0, 12, 0}, {0x33FF, 7}},
+    {{3, 1, 2}, {9, 1, 10}, {1, 1, 1}, 0x0105, {0, 0, 0, 1, 1}, {9, 1, 10}, {0xFF, 7}},
+    {{2, 2, 4}, {12, 0, 9, 0}, {1, 0, 0, 0}, 0x0105, {0, 0, 0, 1, 1}, {12, 0, 0, 0}, {0xFF, 7}},
+    /* Without an owner the word is memory's, also where the holders have others. */
+    {{3, 1, 2}, {1, 9, 2}, {0, 0, 0}, 0x0105, {0, 0, 0, 1, 1}, {0, 0, 0}, {0xFF, 7}},
+    {{3, 1, 2}, {10, 10, 9}, {0, 0, 0}, 0x0005, {0, 0, 0, 1, 1}, {0, 0, 0}, {5, 7}},
+    {{3, 1, 2}, {10, 0, 9}, {0, 0, 0}, 0xFF05, {0, 0, 0, 1, 1}, {0, 0, 0}, {0xFF, 7}},
+    /* The tag of an entry in I is not asked, nor are entries at another index. */
+    {{3, 1, 2}, {0, 9, 0}, {9, 0, 0}, 0x0105, {0, 0, 0, 1, 1}, {0, 0, 0}, {0xFF, 7}},
+    {{2, 2, 4}, {11, 8, 9, 13}, {0, 0, 0, 0}, 0x0105, {0, 0, 0, 0, 1}, {0, 8, 0, 13}, {0x11FF, 7}},
+    {{2, 2, 3}, {0, 9, 0, 0}, {0, 1, 0, 0}, 0x0105, {0, 0, 0, 1, 1}, {0, 9, 0, 0}, {0xFF, 7}},
+    /* Refusal 8: at any port a byte that is no state, or a home line that there isn't; also of no holder. */
+    {{3, 1, 2}, {8, 0, 0}, {0, 0, 0}, 0x0105, {8, 0, 0, 0, 0}, {8, 0, 0}, {5, 7}},
+    {{3, 1, 2}, {12, 0, 13}, {0, 0, 0}, 0x0105, {8, 0, 0, 0, 0}, {12, 0, 13}, {5, 7}},
+    {{3, 1, 2}, {0, 255, 0}, {0, 1, 0}, 0x0005, {8, 0, 0, 0, 0}, {0, 255, 0}, {5, 7}},
+    {{3, 1, 2}, {9, 11, 0}, {0, 2, 0}, 0x0105, {8, 0, 0, 0, 0}, {9, 11, 0}, {5, 7}},
+    {{3, 1, 2}, {0, 0, 1}, {0, 0, 0xFFFFFFFF}, 0xFF05, {8, 0, 0, 0, 0}, {0, 0, 1}, {5, 7}},
+    {{2, 2, 4}, {11, 8, 9, 13}, {0, 0, 0, 0}, 0x10105, {8, 0, 0, 0, 0}, {11, 8, 9, 13}, {5, 7}},
+    {{2, 2, 3}, {0, 9, 0, 0}, {0, 1, 0, 0}, 0x10105, {8, 0, 0, 0, 0}, {0, 9, 0, 0}, {5, 7}},
+    /* Of two refusals the first: 4 before 6 and 8, 6 before 8. The port is not asked, so that 5 is none of them. */
+    {{3, 1, 2}, {0, 3, 0}, {0, 0, 0}, 0x01FD, {8, 0, 0, 0, 0}, {0, 3, 0}, {5, 7}},
+    {{3, 1, 2}, {0, 3, 0}, {0, 0, 0}, 0x20105, {6, 0, 0, 0, 0}, {0, 3, 0}, {5, 7}},
+    {{3, 1, 2}, {0, 3, 0}, {0, 0, 0}, 0x201F5, {6, 0, 0, 0, 0}, {0, 3, 0}, {5, 7}},
+    {{3, 1, 2}, {0, 3, 0}, {0, 0, 0}, 0x0106, {4, 0, 0, 0, 0}, {0, 3, 0}, {5, 7}},
+    {{3, 1, 2}, {0, 3, 0}, {0, 0, 0}, 0x201F7, {4, 0, 0, 0, 0}, {0, 3, 0}, {5, 7}},
+};
+
+enum { DEVICE_CASES = sizeof device_case_list / sizeof device_case_list[0] };
+
+static int is_device_case(const struct pair *pair, const struct device_case *wanted)
+{
+    const struct second_model *lent = lent_numbers(pair);
+
+    for (unsigned entry = 0; entry < wanted->shape.ports * wanted->shape.sets; entry++) {
+        if (lent->states[entry] != wanted->after[entry] || lent->tags[entry] != wanted->tags[entry])
+            return 0;
+        if (lent->data[entry] != 0x1100 * (entry + 1))
+            return 0;
+    }
+    for (unsigned line = 0; line < wanted->shape.lines; line++) {
+        if (lent->memory[line] != (line < 2 ? wanted->memory[line] : line == 2 ? 11 : 13))
+            return 0;
+    }
+    return answer_is(pair, &wanted->answer);
+}
+
+static int device_case(struct tester *tester, size_t k)
+{
+    static const uint64_t memory[4] = {5, 7, 11, 13};
+    const struct device_case *chosen = &device_case_list[k];
+    struct second_model *start = &tester->history.start;
+    int as_expected;
+
+    start->shape = chosen->shape;
+    memcpy(start->memory, memory, sizeof memory);
+    for (unsigned entry = 0; entry < 4; entry++) {
+        start->states[entry] = (uint8_t)chosen->states[entry];
+        start->tags[entry] = chosen->tags[entry];
+        start->data[entry] = 0x1100 * (entry + 1);
+    }
+    as_expected = add_to_start(tester, chosen->word, 0xFF);
+    if (as_expected && is_device_case(&tester->pair, chosen))
+        return 1;
+    if (as_expected)
+        printf("  case %zu of the list is not as worked out\n", k + 1);
+    history_print(&tester->history, &tester->pair);
+    return 0;
+}
+
+/* Run 0: the orders from fresh. Run r: case r of the others. */
+static int device_numbers(struct tester *tester, uint64_t run)
+{
+    return run == 0 ? device_orders(tester) : device_case(tester, (size_t)(run - 1) % DEVICE_CASES);
+}
+
+/* What a device wrote in the middle of a history. */
+
+static int has_bytes(uint64_t word, uint64_t bytes, unsigned mask)
+{
+    for (unsigned k = 0; k < 8; k++) {
+        if ((mask >> k & 1) && (word >> 8 * k & 255) != (bytes >> 8 * k & 255))
+            return 0;
+    }
+    return 1;
+}
+
+/* Adds a read, by a port or by a device, that is to give the bytes. */
+static int reads_bytes(struct tester *tester, uint64_t read, uint64_t bytes, unsigned mask)
+{
+    struct pair *pair = &tester->pair;
+
+    if (!history_add(&tester->history, pair, read, 0))
+        return report_history(tester);
+    if (has_bytes(second_decode_answer(pair->slices[RESULT].bytes).value, bytes, mask) &&
+        tester->history.flat.marks[read >> 16 & 65535] == 0)
+        return 1;
+    snprintf(pair->difference, sizeof pair->difference,
+             "  a device wrote 0x%" PRIx64 " under mask 0x%02x, and its bytes are not read\n", bytes, mask);
+    history_print(&tester->history, pair);
+    return 0;
+}
+
+/* A device writes a line. Then the device reads what it wrote, and so does every port, in any mode. */
+static int fill_line(struct tester *tester)
+{
+    struct generator *generator = &tester->generator;
+    unsigned line = tester->traffic.hot[generator_below(generator, tester->traffic.hot_count)];
+    unsigned mask = generator_percent(generator, 30) ? 0xFF : generator_below(generator, 256);
+    uint64_t bytes = generator_word(generator), ignored = generator_word(generator);
+    uint64_t write = traffic_word(SECOND_DEVICE_WRITE, ignored, ignored >> 1, mask, line, ignored >> 32);
+    uint64_t device_read = traffic_word(SECOND_DEVICE_READ, ignored, ignored >> 1, 0, line, 0);
+
+    if (!history_add(&tester->history, &tester->pair, write, bytes))
+        return report_history(tester);
+    if (!reads_bytes(tester, device_read, bytes, mask))
+        return 0;
+    for (unsigned port = 0; port < tester->traffic.shape.ports; port++) {
+        uint64_t mode = generator_below(generator, 2);
+
+        if (!reads_bytes(tester, traffic_word(SECOND_READ, mode, port, 0, line, 0), bytes, mask))
+            return 0;
+    }
+    return reads_bytes(tester, device_read, bytes, mask);
+}
+
+static int device_fills(struct tester *tester, uint64_t run)
+{
+    struct generator *generator = &tester->generator;
+
+    begin_traffic(tester, run % 4 < 3 ? traffic_small_shape(generator) : traffic_any_shape(generator));
+    traffic_fill_tables(generator, &tester->history.start);
+    tester->history.fresh = 1;
+    /* No audit after an order: it would take the place of the answer that is looked at. */
+    tester->history.audit_every = LONGEST_HISTORY;
+    if (!history_begin(&tester->history, &tester->pair))
+        return report_history(tester);
+    for (unsigned round = 0; round < 6; round++) {
+        if (!add_orders(tester, generator_below(generator, 30)))
+            return report_history(tester);
+        if (!fill_line(tester))
+            return 0;
+        if (!history_end(&tester->history, &tester->pair))
+            return report_history(tester);
+    }
+    return 1;
+}
+
 /* Shapes. */
 
 /* A number of lines for each of many runs: every small one, many of the rest, the largest. */
@@ -409,9 +748,12 @@ static int every_shape(struct tester *tester, uint64_t run)
 static int make_calls(struct tester *tester, struct second_shape shape)
 {
     static const size_t results[8] = {40, 1, 0, 39, 41, 2, 8, 80};
+    static const uint64_t words[2] = {0x0F08, 0xFF05}; /* a read, and a device write */
     struct pair *pair = &tester->pair;
-    uint64_t word = generator_percent(&tester->generator, 50) ? generator_word(&tester->generator) : 0x0F08;
+    uint64_t word = words[generator_below(&tester->generator, 2)];
 
+    if (generator_percent(&tester->generator, 50))
+        word = generator_word(&tester->generator);
     if (!pair_call(pair, FRESH, shape, 0, 0))
         return report_call(tester, "fresh", shape, 0, 0);
     for (size_t k = 0; k < 8; k++) {
@@ -558,6 +900,8 @@ static const struct group groups[] = {
     {"empty slices", empty_slices, 4, 0},
     {"odd shapes", odd_shapes, 8000, 1},
     {"shapes just out of range", shapes_with_their_lengths, 110, 0},
+    {"device writes, number by number", device_numbers, 1 + DEVICE_CASES, 0},
+    {"what a device wrote is read", device_fills, 1000, 1},
 };
 
 enum { GROUPS = sizeof groups / sizeof groups[0] };
@@ -604,11 +948,14 @@ static int met_everything(const struct tally *tally)
         met = met && tally->step_refusals[refusal] > 0;
     for (int refusal = 2; refusal <= 3; refusal++)
         met = met && tally->fresh_refusals[refusal] > 0 && tally->audit_refusals[refusal] > 0;
-    for (int kind = 0; kind < 5; kind++)
+    for (int kind = 0; kind < SECOND_KINDS; kind++)
         met = met && tally->kinds[kind] > 0;
     for (int writes = 0; writes < 3; writes++)
         met = met && tally->writes[writes] > 0;
-    return met;
+    /* Device writes are to come up often, wherever their word is from. */
+    for (int k = 0; k < 3; k++)
+        met = met && tally->device_writes[k] >= 100 && tally->device_masks[k] >= 100;
+    return met && tally->device_ports_beyond >= 100;
 }
 
 static void print_tally(const struct tally *tally, double seconds)
@@ -617,12 +964,16 @@ static void print_tally(const struct tally *tally, double seconds)
     for (int refusal = 2; refusal <= 8; refusal++)
         printf(" %" PRIu64, tally->step_refusals[refusal]);
     printf("; accepted by kind:");
-    for (int kind = 0; kind < 5; kind++)
+    for (int kind = 0; kind < SECOND_KINDS; kind++)
         printf(" %" PRIu64, tally->kinds[kind]);
     printf("\n  swapped %" PRIu64 "; memory writes 0, 1, 2: %" PRIu64 " %" PRIu64 " %" PRIu64, tally->swapped,
            tally->writes[0], tally->writes[1], tally->writes[2]);
     printf("; audits no, yes: %" PRIu64 " %" PRIu64 "; device reads under mark 0, 1: %" PRIu64 " %" PRIu64 "\n",
            tally->verdicts[0], tally->verdicts[1], tally->devices_compared, tally->devices_not_compared);
+    printf("  device writes from an owner, from memory with holders, without: %" PRIu64 " %" PRIu64 " %" PRIu64,
+           tally->device_writes[0], tally->device_writes[1], tally->device_writes[2]);
+    printf("; masks 0x00, 0xFF, others: %" PRIu64 " %" PRIu64 " %" PRIu64 "; ports beyond: %" PRIu64 "\n",
+           tally->device_masks[0], tally->device_masks[1], tally->device_masks[2], tally->device_ports_beyond);
 }
 
 static int run_all(struct tester *tester)
