@@ -61,14 +61,15 @@
  *      16, 32 or 64; lines 1 to 4,096)
  *   3  a slice hasn't exactly the length that the shape gives, or the answer
  *      isn't 40 bytes, or the verdict isn't 1 byte
- *   4  the kind is 5, 6 or 7
- *   5  the port isn't below ports (not asked of a device read, which has no port)
+ *   4  the kind is 6 or 7
+ *   5  the port isn't below ports (not asked of a device read or a device write,
+ *      which have no port)
  *   6  the line isn't below lines
  *   7  the mask of a swap is neither 0x0F nor 0xF0
  *   8  at the line's index, some port's entry has a byte that is no state, or
- *      isn't invalid and has a home line not below lines (not asked of a device
- *      read). A model that starts fresh, and whose memory and tables nobody
- *      but moesi_step writes, never gives it.
+ *      isn't invalid and has a home line not below lines (asked of every kind but
+ *      a device read). A model that starts fresh, and whose memory and tables
+ *      nobody but moesi_step writes, never gives it.
  *
  * A refused call changes no lent byte but the answer (number and four zeros) or
  * the verdict (0). An answer or a verdict of another length is left alone.
@@ -116,6 +117,7 @@
 #define MOESI_SWAP 2u
 #define MOESI_FLUSH 3u
 #define MOESI_DEVICE_READ 4u
+#define MOESI_DEVICE_WRITE 5u
 
 /* Modes of an access. */
 #define MOESI_WRITE_THROUGH 0u
@@ -283,6 +285,15 @@ static inline uint64_t moesi_order_flush(uint64_t port, uint64_t line)
 static inline uint64_t moesi_order_device_read(uint64_t line)
 {
     return moesi_order_word(MOESI_DEVICE_READ, 0, 0, line, 0, 0);
+}
+
+/*
+ * A device writes byte k of the operand into byte k of the line's word where mask
+ * bit k is 1. The word is stored in main memory, and no port keeps a copy.
+ */
+static inline uint64_t moesi_order_device_write(uint64_t line, uint8_t mask)
+{
+    return moesi_order_word(MOESI_DEVICE_WRITE, 0, 0, line, mask, 0);
 }
 
 /* The operand that gives a swap its new half. */

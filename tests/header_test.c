@@ -17,7 +17,7 @@ static void check_at(int line, int holds, const char *what)
 
 #define CHECK(condition) check_at(__LINE__, (condition) ? 1 : 0, #condition)
 
-/* The words of document 01's trace and of its fourteen orders. */
+/* The words of document 01's trace and of its fourteen orders, and of device writes. */
 static void check_order_words(void)
 {
     CHECK(moesi_order_write(0, 0, MOESI_WRITE_BACK, 0xFF) == 0xFF09);
@@ -30,6 +30,8 @@ static void check_order_words(void)
     CHECK(moesi_order_write(0, 1, MOESI_WRITE_THROUGH, 0x01) == 0x10101);
     CHECK(moesi_order_flush(1, 1) == 0x10013);
     CHECK(moesi_order_device_read(0) == 4);
+    CHECK(moesi_order_device_write(0, 0) == 5);
+    CHECK(moesi_order_device_write(1, 0x81) == 0x18105);
 }
 
 /* Every field at its ends, and numbers that are too large for their field. */
@@ -38,12 +40,16 @@ static void check_order_fields(void)
     CHECK(moesi_order_read(7, 4095, MOESI_WRITE_BACK) == 0x0FFF0078);
     CHECK(moesi_order_swap_lower(7, 4095, MOESI_WRITE_BACK, 0xFFFFFFFF) == UINT64_C(0xFFFFFFFF0FFF0F7A));
     CHECK(moesi_order_device_read(4095) == 0x0FFF0004);
+    CHECK(moesi_order_device_write(4095, 0xFF) == 0x0FFFFF05);
     CHECK(moesi_order_write(3, 256, MOESI_WRITE_THROUGH, 0xA5) == 0x0100A531);
     CHECK(moesi_order_read(14, 65534, MOESI_WRITE_THROUGH) == 0xFFFE00E0u);
     CHECK(moesi_order_read(16, 0, MOESI_WRITE_THROUGH) == 0xF0);
     CHECK(moesi_order_read(UINT64_MAX, 0, MOESI_WRITE_THROUGH) == 0xF0);
     CHECK(moesi_order_flush(0, 65536) == 0xFFFF0003u);
     CHECK(moesi_order_device_read(UINT64_MAX) == 0xFFFF0004u);
+    CHECK(moesi_order_device_write(65534, 0x5A) == 0xFFFE5A05u);
+    CHECK(moesi_order_device_write(65536, 0x5A) == 0xFFFF5A05u);
+    CHECK(moesi_order_device_write(UINT64_MAX, 0) == 0xFFFF0005u);
     CHECK(moesi_order_read(0, 0, 2) == 0x08);
     CHECK(moesi_order_word(15, 0, 0, 0, 0x1FF, UINT64_C(0x500000003)) == UINT64_C(0x30000FF07));
     CHECK(moesi_operand_lower(0x89ABCDEF) == 0x89ABCDEFu);
@@ -54,7 +60,8 @@ static void check_constants(void)
 {
     CHECK(MOESI_MAX_PORTS == 8 && MOESI_MAX_SETS == 64 && MOESI_MAX_LINES == 4096);
     CHECK(MOESI_ANSWER_BYTES == 40 && MOESI_VERDICT_BYTES == 1);
-    CHECK(MOESI_READ == 0 && MOESI_WRITE == 1 && MOESI_SWAP == 2 && MOESI_FLUSH == 3 && MOESI_DEVICE_READ == 4);
+    CHECK(MOESI_READ == 0 && MOESI_WRITE == 1 && MOESI_SWAP == 2 && MOESI_FLUSH == 3);
+    CHECK(MOESI_DEVICE_READ == 4 && MOESI_DEVICE_WRITE == 5);
     CHECK(MOESI_WRITE_THROUGH == 0 && MOESI_WRITE_BACK == 1);
     CHECK(MOESI_LOWER_HALF == 0x0F && MOESI_UPPER_HALF == 0xF0);
     CHECK(MOESI_INVALID == 0 && MOESI_THROUGH_SHARED == 1 && MOESI_THROUGH_EXCLUSIVE == 2);
@@ -125,6 +132,12 @@ static void check_calls(void)
     CHECK(read.refusal == 0 && read.value == 99 && read.swapped == 0);
     CHECK(read.memory_reads == 1 && read.memory_writes == 0);
     CHECK(states[0] == MOESI_BACK_EXCLUSIVE && moesi_get_word(data, 0) == 99);
+    CHECK(moesi_step(1, 1, 1, moesi_order_device_write(0, 0x02), 0x1234, memory, 8, tags, 4, states, 1, data, 8,
+                     answer, 40) == MOESI_ACCEPTED);
+    read = moesi_read_answer(answer);
+    CHECK(read.refusal == 0 && read.value == 0 && read.swapped == 0);
+    CHECK(read.memory_reads == 1 && read.memory_writes == 1);
+    CHECK(states[0] == MOESI_INVALID && moesi_get_word(data, 0) == 99 && moesi_get_word(memory, 0) == 0x1263);
     CHECK(moesi_audit(1, 1, 1, memory, 8, tags, 4, states, 1, data, 8, verdict, 1) == MOESI_ACCEPTED);
     CHECK(verdict[0] == 1);
     CHECK(moesi_audit(1, 1, 1, NULL, 0, NULL, 0, NULL, 0, NULL, 0, NULL, 0) == MOESI_REFUSED_LENGTH);

@@ -51,6 +51,7 @@ static void check_at(int line, int holds, const char *what)
 
 /* What has come up, so that no check is passed by looking at nothing. */
 static unsigned refusals_seen[9], states_seen[256], swaps_seen, clean_seen, dirty_seen, passed_seen, failed_seen;
+static unsigned device_writes_seen;
 
 /* Lent bytes, with guard bytes before and after them. */
 struct lent {
@@ -239,12 +240,12 @@ static uint64_t random_mask(uint64_t kind)
 /* An order of any kind; now and then its kind, its port, its line or its mask is one that is refused. */
 static uint64_t random_order(struct shape shape)
 {
-    uint64_t kind = generator_below(&generator, 5), mode = generator_below(&generator, 2);
+    uint64_t kind = generator_below(&generator, 6), mode = generator_below(&generator, 2);
     uint64_t port = generator_below(&generator, shape.ports), line = random_line(shape);
     uint64_t mask = random_mask(kind), compare = generator_below(&generator, 3);
 
     if (generator_percent(&generator, 2))
-        kind = 5 + generator_below(&generator, 4);
+        kind = 6 + generator_below(&generator, 4);
     if (generator_percent(&generator, 2))
         port = shape.ports + generator_below(&generator, 12);
     if (generator_percent(&generator, 2))
@@ -357,6 +358,26 @@ static void look(const struct both *both, const struct moesi_model *m)
     compare(both);
 }
 
+/* A device writes the line under a mask. Then memory has the merged word, no port holds the line, and it is clean. */
+static void device_write(struct both *both, struct moesi_model *m, uint64_t line, uint8_t mask)
+{
+    uint64_t expected = line < both->shape.lines ? MOESI_ACCEPTED : MOESI_REFUSED_LINE;
+    uint64_t merged = moesi_model_word(m, line), operand = generator_word(&generator);
+
+    for (unsigned k = 0; k < 8; k++)
+        if (mask >> k & 1)
+            merged = (merged & ~(UINT64_C(255) << 8 * k)) | (operand & UINT64_C(255) << 8 * k);
+    CHECK(on_a_copy(both, moesi_order_device_write(line, mask)).refusal == expected);
+    step(both, m, moesi_order_device_write(line, mask), operand);
+    if (line >= both->shape.lines)
+        return;
+    CHECK(moesi_get_word(m->memory, (size_t)line) == merged);
+    CHECK(moesi_model_word(m, line) == merged && moesi_model_clean(m, line) == 1);
+    for (uint64_t port = 0; port < both->shape.ports; port++)
+        CHECK(moesi_model_state(m, port, line) == MOESI_INVALID);
+    device_writes_seen++;
+}
+
 /* Looks at any tables: the lowest-numbered holder has the word, or else memory. */
 static void look_at_damage(const struct both *both, const struct moesi_model *m)
 {
@@ -447,6 +468,22 @@ static void check_damage(void)
             random_step(&first, &first.m);
         open_copy(&first, &copy);
         look_at_damage(&first, &copy);
+    }
+}
+
+/* Device writes among other orders, to lines that are held and not, that there are and not. */
+static void check_device_writes(void)
+{
+    for (unsigned s = 0; s < SHAPES && !failures; s++) {
+        start(&first, shapes[s]);
+        for (unsigned k = 0; k < 500 && !failures; k++) {
+            uint64_t line = k % 5 == 0 ? looked_at(shapes[s], k / 5 % LOOKED_AT) : random_line(shapes[s]);
+            uint8_t mask = (uint8_t)(k % 4 == 0 ? 0xFF : generator_below(&generator, 256));
+
+            device_write(&first, &first.m, line, mask);
+            for (unsigned n = 0; n < 6 && !failures; n++)
+                random_step(&first, &first.m);
+        }
     }
 }
 
@@ -624,6 +661,7 @@ static void check_zeros(void)
         moesi_order_read(0, 0, MOESI_WRITE_BACK),
         moesi_order_write(0, 0, MOESI_WRITE_THROUGH, 0xFF),
         moesi_order_device_read(0),
+        moesi_order_device_write(0, 0xFF),
         7,
         UINT64_MAX,
     };
@@ -649,14 +687,15 @@ static void check_seen(void)
     CHECK(refusals_seen[0] > 1000);
     for (int refusal = 4; refusal <= 8; refusal++)
         CHECK(refusals_seen[refusal] > 50);
-    CHECK(swaps_seen > 100 && clean_seen > 100 && dirty_seen > 100);
+    CHECK(swaps_seen > 100 && clean_seen > 100 && dirty_seen > 100 && device_writes_seen > 100);
     CHECK(passed_seen > 1000 && failed_seen > 1000);
 }
 
 int main(void)
 {
     static void (*const checks[])(void) = {
-        check_sizes, check_tags, check_refusals, check_orders, check_copies, check_damage, check_seen, check_zeros,
+        check_sizes,         check_tags,   check_refusals, check_orders, check_copies,
+        check_device_writes, check_damage, check_seen,     check_zeros,
     };
 
     /* A group that fails is the last one: the others use what it found broken. */
