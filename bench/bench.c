@@ -266,6 +266,24 @@ static void make_mix(struct bench *bench, struct generator *generator, unsigned 
     }
 }
 
+/* Device writes, three in eight orders, among reads and writes by ports. Half of them go to the lines that the ports
+   use, and find them dirty, clean or given up; the others to any line, of many mostly one that nobody holds. */
+static void make_device_writes(struct bench *bench, struct generator *generator)
+{
+    static const unsigned kinds[8] = {0, 0, 0, 1, 1, 5, 5, 5};
+    unsigned lines = (unsigned)bench->shape.lines, sets = (unsigned)bench->shape.sets;
+    unsigned near = lines < sets ? lines : sets;
+
+    for (bench->count = 0; bench->count < ORDERS;) {
+        unsigned kind = kinds[generator_below(generator, 8)];
+        int far = kind == MOESI_DEVICE_WRITE && generator_percent(generator, 50);
+        unsigned line = generator_below(generator, far ? lines : near);
+        unsigned mode = generator_percent(generator, 70) ? 1 : 0, mask = generator_below(generator, 256);
+
+        add(bench, generator, order_of(kind, mode, generator_below(generator, bench->shape.ports), line, mask));
+    }
+}
+
 /* The table. */
 
 /* Times the orders that were made, after one round to warm up. */
@@ -312,6 +330,11 @@ static int time_shape(struct bench *bench, struct second_shape shape, struct byt
     time_steps(bench, "step: mix");
     agree &= states_agree(bench, scratch);
     time_tables(bench);
+    /* Last, so that the rows above have the orders that they had before there were device writes. */
+    start(bench, shape);
+    make_device_writes(bench, &generator);
+    time_steps(bench, "step: device writes");
+    agree &= states_agree(bench, scratch);
     if (!agree)
         printf("the models differ after the orders at this shape\n");
     return agree;
@@ -357,7 +380,8 @@ int main(int argc, char **argv)
     time_growth(&bench);
     printf("The last three columns are times over times: below 1 the library is the faster one. Each row is the best of\n"
            "its repetitions, after a warm-up, from a fresh model. The second model works on decoded arrays and checks no\n"
-           "shape and no length. In the mix the swaps compare with 0, and nearly all fail.\n");
+           "shape and no length. In the mix the swaps compare with 0, and nearly all fail. Three in eight orders\n"
+           "of the row of device writes are such, the others reads and writes by ports.\n");
     for (int k = 0; k <= BYTE_MODELS; k++) {
         free(all[k].memory);
         free(all[k].tags);
