@@ -16,4 +16,4 @@ pub mod Theorem
 pub mod Marks
 pub mod Device
 pub mod Claims
-pub mod Fourteen
+pub mod Examples

@@ -3,7 +3,7 @@ use Prim.Native.Nat.{ℕ, zero, _<_}
 use mathlib.Core.Path.{_≡_, refl, _∙_}
 use mathlib.Core.Logic.{_≢_}
 use mathlib.Core.Bool.{Bool, false, false≢true}
-use lib.ListN.{getD, length-set}
+use lib.ListN.{length-set}
 use lib.Seq.{getD-set-same, getD-set-other}
 use Rattle.words.specs.Word.{merge}
 use Rattle.protocol.specs.declared.state.State.the-variants.{I}
@@ -13,7 +13,7 @@ use Rattle.protocol.proofs.States.{not-valid}
 use Rattle.protocol.proofs.Kept.{snooped-I}
 use Rattle.model.specs.declared.shape.Shape.{Shape}
 use Rattle.model.specs.Shape.{entryOf}
-use Rattle.model.specs.Tables.{Model, seen, memoryAt, holds}
+use Rattle.model.specs.Tables.{Model, seen, memoryAt}
 use Rattle.model.specs.Step.{wordSupplied, byteAnswered, deviceWritten}
 use Rattle.model.proofs.Line.{Unowned, free-good}
 use Rattle.model.proofs.Entries.{Sized, putBelow-length, put-at, put-apart}
@@ -36,21 +36,17 @@ module _ (s : Shape) (t : Model) (a : ℕ) (ready : Ready s t a) (mask x : ℕ) 
   abbrev nobody : ℕ → Bool
   nobody p = false
 
-  byte-at : (p : ℕ) → p < s .ports → getD (now .states) (entryOf s a p) 0 ≡ byteAnswered s t a (holds s t a) Invalidate p
-  unfolding deviceWritten
-  byte-at = put-at s pos a (byteAnswered s t a (holds s t a) Invalidate) (t .states) (sized .states)
-
   touched : Touched s t now nobody a I (snooped Invalidate)
   unfolding deviceWritten byteAnswered
   touched = record {
     tags-apart = λ k d. refl;
-    bytes-apart = put-apart s pos a (byteAnswered s t a (holds s t a) Invalidate) (t .states);
+    bytes-apart = put-apart s pos a _ (t .states);
     words-apart = λ k d. refl;
     tag-own = λ p h k. absurd (false≢true k);
     tag-other = λ p d. refl;
     byte-own = λ p h k. absurd (false≢true k);
-    byte-holder = λ p h d v. byte-at p h ∙ rw v;
-    byte-passed = λ p h d v. byte-at p h ∙ rw (not-valid (seen s t a p) v);
+    byte-holder = λ p h d v. put-at s pos a _ (t .states) (sized .states) p h ∙ rw v;
+    byte-passed = λ p h d v. put-at s pos a _ (t .states) (sized .states) p h ∙ rw (not-valid (seen s t a p) v);
     word-passed = λ p h d v. refl;
   }
 
@@ -65,7 +61,7 @@ module _ (s : Shape) (t : Model) (a : ℕ) (ready : Ready s t a) (mask x : ℕ) 
 
   memory-other : (b : ℕ) → b ≢ a → memoryAt now b ≡ memoryAt t b
   unfolding deviceWritten
-  memory-other b d = getD-set-other (t .memory) a b written 0 d
+  memory-other b d = getD-set-other (t .memory) a b _ 0 d
 
   pub line-written : LineGood s now a written
   line-written = free-good (s .ports) _ _ _ written gone memory-here
@@ -76,9 +72,9 @@ module _ (s : Shape) (t : Model) (a : ℕ) (ready : Ready s t a) (mask x : ℕ) 
   sized-after : Sized s now
   unfolding deviceWritten
   sized-after = record {
-    memory = length-set (t .memory) a written ∙ sized .memory;
+    memory = length-set (t .memory) a _ ∙ sized .memory;
     tags = sized .tags;
-    states = putBelow-length (entryOf s a) (byteAnswered s t a (holds s t a) Invalidate) (s .ports) (t .states) ∙ sized .states;
+    states = putBelow-length (entryOf s a) _ (s .ports) (t .states) ∙ sized .states;
     words = sized .words;
   }
 

@@ -1,6 +1,6 @@
 -- Document 01's fourteen orders, as one table: the order, the five numbers, then the bytes of the states in which ports 0 and 1 see the
 -- order's line, and the two memory words.
--- The proof is `fourteen-hold` in proofs/Fourteen.antt.
+-- The proof is `fourteen-hold` in proofs/Examples.antt.
 use Prim.Native.Nat.{ℕ, _+_, _*_, _^_}
 use mathlib.Core.Path.{_≡_}
 use mathlib.Core.List.{List, [], _∷_}
@@ -16,16 +16,16 @@ use Rattle.model.specs.Step.{step}
 use Rattle.model.specs.Fresh.{fresh}
 
 -- An order of a kind, by its fields, with an operand.
-abbrev order : ℕ → Mode → ℕ → ℕ → ℕ → ℕ → ℕ → Order
+abbrev pub order : ℕ → Mode → ℕ → ℕ → ℕ → ℕ → ℕ → Order
 order kind m port mask line compare x = record {
   word = kind + modeNumber m * 2 ^ 3 + port * 2 ^ 4 + mask * 2 ^ 8 + line * 2 ^ 16 + compare * 2 ^ 32;
   operand = x;
 }
 
-abbrev read : ℕ → ℕ → Mode → Order
+abbrev pub read : ℕ → ℕ → Mode → Order
 read port line m = order 0 m port 0 line 0 0
 
-abbrev write : ℕ → ℕ → Mode → ℕ → ℕ → Order
+abbrev pub write : ℕ → ℕ → Mode → ℕ → ℕ → Order
 write port line m mask x = order 1 m port mask line 0 x
 
 abbrev swap : ℕ → ℕ → Mode → ℕ → ℕ → ℕ → Order
@@ -37,7 +37,7 @@ flush port line = order 3 Through port 0 line 0 0
 abbrev deviceRead : ℕ → Order
 deviceRead line = order 4 Through 0 0 line 0 0
 
-abbrev answer : ℕ → ℕ → ℕ → ℕ → ℕ → Answer
+abbrev pub answer : ℕ → ℕ → ℕ → ℕ → ℕ → Answer
 answer refusal value swapped reads writes = record { refusal = refusal; value = value; swapped = swapped; reads = reads; writes = writes }
 
 pub record Row : Type 0 where
@@ -48,7 +48,7 @@ pub record Row : Type 0 where
   pub memory-0 : ℕ
   pub memory-1 : ℕ
 
-abbrev row : Order → Answer → ℕ → ℕ → ℕ → ℕ → Row
+abbrev pub row : Order → Answer → ℕ → ℕ → ℕ → ℕ → Row
 row o x s0 s1 m0 m1 = record { order = o; answer = x; state-0 = s0; state-1 = s1; memory-0 = m0; memory-1 = m1 }
 
 unfoldable pub table : List Row
@@ -85,5 +85,9 @@ played (r ∷ rs) t =
     let a = bits (r .order .word) 16 16 in
     row (r .order) (x .answer) (code (seen twoPorts u a 0)) (code (seen twoPorts u a 1)) (memoryAt u 0) (memoryAt u 1) ∷ played rs u
 
+-- A table is what the step gives, from a start.
+abbrev pub Holds : List Row → Model → Type 0
+Holds rows t = played rows t ≡ rows
+
 abbrev pub FourteenHold : Type 0
-FourteenHold = played table start ≡ table
+FourteenHold = Holds table start

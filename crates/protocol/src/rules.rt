@@ -20,9 +20,6 @@ pub enum Bus {
     ShareOwned,
 }
 
-// The number of the command to become I, which a device sends too. (All the numbers: `busNumber`.)
-pub const INVALIDATE: u8 = 1;
-
 // A rule of the own table: the port's next state, what goes over the bus, and whether memory gets the line's word.
 pub struct Rule {
     pub own: State,
@@ -144,6 +141,13 @@ pub fn snooped_byte(bus: u8, s: u8) -> u8
     ensures { λ r. ⌜ r ≡ code (snooped (busAt bus) (orInvalid (stateOf s))) ⌝ }
 {
     nibble(snoop_row(bus), s)
+}
+
+// The number of the command to become I, for a device, which has no row in the own table.
+pub fn invalidate() -> u8
+    ensures { λ r. ⌜ (busAt r ≡ Bus.Invalidate) × (r < 7) ⌝ }
+{
+    1u8
 }
 
 // The command hands the new word to the holders.

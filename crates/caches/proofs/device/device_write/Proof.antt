@@ -1,6 +1,5 @@
 -- The word supplied and merged, the holders' answers, and one store. Assumes nothing.
 use borrow.Author.Needs.{needs}
-use native.Mathlib.Omega.{arith}
 use Rattle.ports.specs.Bytes.{Bytes, bytes, tablesIn}
 use Rattle.ports.proofs.Surveys.{masks-owners, masks-states}
 use Rattle.caches.proofs.Devices.{all-hold, written-done}
@@ -25,21 +24,34 @@ supplied-word-requires c κs =
 ask-requires : tie.Need-ask-requires
 unfolding tablesIn
 ask-requires c κs =
-    let after-supplied-word : tie.After-supplied-word = search in
+    let after-invalidate : tie.After-invalidate = search in let after-supplied-word : tie.After-supplied-word = search in
     let start = start-of-supplied-word after-supplied-word in
-    let said = start .pre .1 .1 in
-    (start .pre .0 .filled, (start .pre .1 .0, (masks-states _ _ _ (said .0) (said .1), (all-hold (start .pre .1 .0) (lent start) (said .0), omega arith))))
+    let said = start .pre .1 .1 in (
+      start .pre .0 .filled,
+      (
+        start .pre .1 .0,
+        (
+          masks-states _ _ _ (said .0) (said .1),
+          (
+            all-hold (start .pre .1 .0) (lent start) (said .0),
+            after-invalidate .invalidate .ensures .1,
+          ),
+        ),
+      ),
+    )
 
 returns : tie.Need-returns
 returns c =
     let after-accept : tie.After-accept = search in let after-store-if : tie.After-store-if = search in let after-ask : tie.After-ask = search in
-    let after-merged : tie.After-merged = search in let after-supplied-word = supplied-word-of-ask after-ask in
+    let after-invalidate : tie.After-invalidate = search in let after-merged : tie.After-merged = search in
+    let after-supplied-word = supplied-word-of-ask after-ask in
     let start = start-of-supplied-word after-supplied-word in
-    written-done (start .pre .1 .0) (lent start) (start .pre .1 .1 .0) _ _ _ (after-supplied-word .supplied-word .ensures) (after-merged .merged .ensures)
+    written-done (start .pre .1 .0) (lent start) (start .pre .1 .1 .0) _ _ _ (after-invalidate .invalidate .ensures .0)
+    (after-supplied-word .supplied-word .ensures) (after-merged .merged .ensures)
     (after-ask .ask .ensures) (after-store-if .store-if .ensures) (after-accept .accept .ensures)
 
 pub device-write-spec : {M : Type 1} → statement M
 device-write-spec =
     tie.close
-    (tie.spec supplied-word-requires (λ c κs. search needs) ask-requires (λ c κs. search needs) (λ c κs. search needs) (λ c. search needs)
+    (tie.spec supplied-word-requires (λ c κs. search needs) (λ c κs. search needs) ask-requires (λ c κs. search needs) (λ c κs. search needs) (λ c. search needs)
     (λ c. search needs) (λ c. search needs) (λ c. search needs) returns)
