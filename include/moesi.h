@@ -83,13 +83,29 @@
  * of a line is right (it gives the word that a port would read) with no flush,
  * unless the line was written in write back, by a write or by a swap that
  * succeeded, since its last write-through access by any port (a read, a write or
- * a swap, successful or not) or, without such an access, since the start. The
- * rule looks at the accesses alone: a flush does not count as a write-through
- * access. What it does is store the word if the port that flushes owns the line
- * (state O or M); so once every holder that owns the line has flushed it, memory
- * has the word, until the next write, or swap that succeeds, in write back. A
- * flush by a port that doesn't hold the line changes nothing: to be sure, flush
- * the line from every port, or read it once in write through from any port.
+ * a swap, successful or not) or its last device write or, without either, since
+ * the start. The rule looks at these orders alone: a flush does not count as a
+ * write-through access. What it does is store the word if the port that flushes
+ * owns the line (state O or M); so once every holder that owns the line has
+ * flushed it, memory has the word, until the next write, or swap that succeeds,
+ * in write back. A flush by a port that doesn't hold the line changes nothing: to
+ * be sure, flush the line from every port, or read it once in write through from
+ * any port.
+ *
+ * What a device writes
+ * --------------------
+ *
+ * A device write puts the operand's bytes, where the mask has a 1, into the line's
+ * word as the ports have it: the owner's, or memory's where no port owns the line.
+ * The whole word is then in main memory, and no port has a copy. For the same
+ * models this is proved: after it a read by any port, in either mode, and a device
+ * read give the device's bytes, and beside them what was last written there. So a
+ * driver needs no flush and no invalidate, neither before a device fills a buffer
+ * nor after it, whatever the ports hold of the buffer; also where the device fills
+ * a line in part, for what a port wrote beside its bytes is not lost. A device read
+ * of the line is then right until the next write, or swap that succeeds, in write
+ * back. All this is said of the model's device, which the caches hear when it
+ * writes, and not when it reads.
  */
 
 #ifndef MOESI_H
