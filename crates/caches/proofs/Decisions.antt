@@ -23,17 +23,16 @@ use Rattle.protocol.proofs.States.{not-valid}
 use Rattle.protocol.proofs.Rows.{bus-below, bus-at}
 use Rattle.model.specs.declared.shape.Shape.{Shape}
 use Rattle.model.specs.declared.answer.Answer.{Answer}
-use Rattle.model.specs.Shape.{entries, entryOf}
-use Rattle.model.specs.Below.{lowest, atOr}
-use Rattle.model.specs.Tables.{Model, stateAt, homeAt, sound, seen, wordAt, memoryAt, holds, owns, dirty}
+use Rattle.model.specs.Shape.{entryOf}
+use Rattle.model.specs.Tables.{Model, stateAt, homeAt, sound, seen, wordAt, holds, dirty}
 use Rattle.model.specs.Step.{result, accepted, store, wordSupplied, byteAnswered, wordAnswered, shared, wordFound, fetches, evictsOwner, applied, accessRule}
 use Rattle.model.specs.Step.{accessed}
 use Rattle.model.proofs.Entries.{seen-tag, seen-here, home-is}
 use Rattle.ports.specs.declared.line.Line.{Line}
 use Rattle.ports.specs.declared.entry.Entry.{Entry}
 use Rattle.ports.specs.declared.survey.Masks.{Masks}
-use Rattle.ports.specs.Bytes.{Bytes, bytes, modelIn, tablesIn, Filled}
-use Rattle.ports.specs.Entry.{wordIn, entryAt, putAt}
+use Rattle.ports.specs.Bytes.{Bytes, bytes, modelIn, tablesIn}
+use Rattle.ports.specs.Entry.{entryAt, putAt}
 use Rattle.ports.specs.Line.{Placed}
 use Rattle.ports.specs.Masks.{portsFrom, inMask, masksOf}
 use Rattle.ports.specs.Bus.{answered}

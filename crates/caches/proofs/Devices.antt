@@ -1,7 +1,7 @@
 -- A device write as the code makes it is the model's. Assumes nothing.
 use Prim.Native.Nat.{ℕ, _+_}
-use mathlib.Core.Path.{_≡_, refl, ap, sym, _∙_}
-use mathlib.Core.Bool.{Bool, true, false, not}
+use mathlib.Core.Path.{_≡_, refl, ap, _∙_}
+use mathlib.Core.Bool.{true, false, not}
 use lib.Dec.{eqb}
 use Rattle.endian.specs.Little.{numbers}
 use Rattle.words.specs.Bools.{bit}
@@ -12,7 +12,7 @@ use Rattle.protocol.specs.Rules.{updates}
 use Rattle.model.specs.declared.shape.Shape.{Shape}
 use Rattle.model.specs.declared.answer.Answer.{Answer}
 use Rattle.model.specs.Shape.{entryOf}
-use Rattle.model.specs.Tables.{Model, model, seen, holds, owns, dirty}
+use Rattle.model.specs.Tables.{Model, model, seen, holds, dirty}
 use Rattle.model.specs.Step.{result, accepted, store, putBelow, wordSupplied, byteAnswered, deviceWritten}
 use Rattle.model.proofs.Entries.{entry-inj}
 use Rattle.ports.specs.declared.line.Line.{Line}

@@ -1,4 +1,4 @@
-// A device, which reads and writes main memory behind the caches.
+// A device: it reads main memory behind the caches, and the holders of a line hear when it writes.
 use crate::answer;
 use crate::memory;
 use crate::supply;

@@ -11,23 +11,23 @@ use Rattle.model.specs.declared.order.Call.the-variants.{ByPort, Flush, DeviceR
 use Rattle.model.specs.Order.{callOf}
 use Rattle.decode.specs.Order.{accessOf}
 
-module _ (m : Mode) (port mask line compare x : ℕ) where
-  pub call-access : (kind : ℕ) → kind < 3 → ByPort (accessOf kind mask compare x) m port line ≡ callOf kind m port mask line compare x
+module _ (m : Mode) (port mask compare x : ℕ) where
+  pub call-access : (kind : ℕ) → kind < 3 → ByPort (accessOf kind mask compare x) m port ≡ callOf kind m port mask compare x
   unfolding callOf accessOf
   call-access zero h = refl
   call-access (suc zero) h = refl
   call-access (suc (suc zero)) h = refl
   call-access (suc (suc (suc k))) h = absurd (omega arith)
 
-  pub call-flush : {kind : ℕ} → kind ≡ 3 → Flush port line ≡ callOf kind m port mask line compare x
+  pub call-flush : {kind : ℕ} → kind ≡ 3 → Flush port ≡ callOf kind m port mask compare x
   unfolding callOf
   call-flush e = rw e
 
-  pub call-device-read : {kind : ℕ} → kind ≡ 4 → DeviceRead line ≡ callOf kind m port mask line compare x
+  pub call-device-read : {kind : ℕ} → kind ≡ 4 → DeviceRead ≡ callOf kind m port mask compare x
   unfolding callOf
   call-device-read e = rw e
 
-  pub call-device-write : {kind : ℕ} → 3 ≤ kind → kind ≢ 3 → kind ≢ 4 → DeviceWrite mask x line ≡ callOf kind m port mask line compare x
+  pub call-device-write : {kind : ℕ} → 3 ≤ kind → kind ≢ 3 → kind ≢ 4 → DeviceWrite mask x ≡ callOf kind m port mask compare x
   unfolding callOf
   call-device-write {kind} h d e = rw (apart 0 (omega arith), apart 1 (omega arith), apart 2 (omega arith), ne-eqb kind 3 d, ne-eqb kind 4 e)
     where

@@ -17,5 +17,5 @@ accessOf kind mask compare x = cond (eqb kind 0) Read (cond (eqb kind 1) (Write 
 
 -- The refusal of an order taken apart, 0 where it asks something.
 abbrev pub refusalIn : Decoded → ℕ
-refusalIn (Asked c) = 0
+refusalIn (Asked c a) = 0
 refusalIn (Refused n) = n

@@ -1,11 +1,11 @@
-// An order word taken apart, once; and what is asked of the call that comes of it.
+// An order word taken apart, once.
 use model::order::Call;
 use model::order::Decoded;
 use model::shape::Shape;
 use protocol::state::Mode;
 use words::access::Access;
 ghost use mathlib.Core.Path.{_≡_};
-ghost use Rattle.model.specs.Order.{modeIn, checked, callOf, decode, lineIn, looks};
+ghost use Rattle.model.specs.Order.{modeIn, checked, callOf, decode};
 ghost use Rattle.decode.specs.Order.{order, accessOf, refusalIn};
 
 fn mode_in(w: u64) -> Mode
@@ -31,22 +31,22 @@ fn access_of(kind: u64, mask: u8, compare: u64, x: u64) -> Access
     Access::Swap(mask, x, compare)
 }
 
-fn call_of(kind: u64, m: Mode, port: usize, mask: u8, line: usize, compare: u64, x: u64) -> Call
-    ensures { λ r. ⌜ r ≡ callOf kind m port mask line compare x ⌝ }
+fn call_of(kind: u64, m: Mode, port: usize, mask: u8, compare: u64, x: u64) -> Call
+    ensures { λ r. ⌜ r ≡ callOf kind m port mask compare x ⌝ }
 {
     if kind < 3 {
-        return Call::ByPort(access_of(kind, mask, compare, x), m, port, line);
+        return Call::ByPort(access_of(kind, mask, compare, x), m, port);
     }
     if kind == 3 {
-        return Call::Flush(port, line);
+        return Call::Flush(port);
     }
     if kind == 4 {
-        return Call::DeviceRead(line);
+        return Call::DeviceRead;
     }
-    Call::DeviceWrite(mask, x, line)
+    Call::DeviceWrite(mask, x)
 }
 
-// Refusals 4 to 7, in checking order, else the call.
+// Refusals 4 to 7, in checking order, else the call and its line.
 fn checked_call(shape: Shape, kind: u64, port: usize, mask: u8, line: usize, call: Call) -> Decoded
     ensures { λ r. ⌜ r ≡ checked shape kind port mask line call ⌝ }
 {
@@ -62,7 +62,7 @@ fn checked_call(shape: Shape, kind: u64, port: usize, mask: u8, line: usize, cal
     if (kind == 2) & !((mask == 0x0F) | (mask == 0xF0)) {
         return Decoded::Refused(7);
     }
-    Decoded::Asked(call)
+    Decoded::Asked(call, line)
 }
 
 // The fields of the word: 0-2 kind, 3 mode, 4-7 port, 8-15 byte mask, 16-31 line, 32-63 compare value.
@@ -74,7 +74,7 @@ pub fn decode_order(shape: Shape, w: u64, x: u64) -> Decoded
     let mask = (w / 256 % 256) as u8;
     let line = (w / 65536 % 65536) as usize;
     let compare = w / 4294967296 % 4294967296;
-    let call = call_of(kind, mode_in(w), port, mask, line, compare, x);
+    let call = call_of(kind, mode_in(w), port, mask, compare, x);
     checked_call(shape, kind, port, mask, line, call)
 }
 
@@ -83,31 +83,7 @@ pub fn refusal_of(d: Decoded) -> u64
     ensures { λ r. ⌜ r ≡ refusalIn d ⌝ }
 {
     match d {
-        Decoded::Asked(_) => 0,
+        Decoded::Asked(_, _) => 0,
         Decoded::Refused(n) => n,
-    }
-}
-
-// The line of a call.
-pub fn line_in(call: Call) -> usize
-    ensures { λ r. ⌜ r ≡ lineIn call ⌝ }
-{
-    match call {
-        Call::ByPort(_, _, _, a) => a,
-        Call::Flush(_, a) => a,
-        Call::DeviceRead(a) => a,
-        Call::DeviceWrite(_, _, a) => a,
-    }
-}
-
-// The call looks at the ports' entries: all but a device read.
-pub fn looks(call: Call) -> bool
-    ensures { λ r. ⌜ r ≡ looks call ⌝ }
-{
-    match call {
-        Call::ByPort(_, _, _, _) => true,
-        Call::Flush(_, _) => true,
-        Call::DeviceRead(_) => false,
-        Call::DeviceWrite(_, _, _) => true,
     }
 }

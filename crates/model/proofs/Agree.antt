@@ -26,7 +26,7 @@ use Rattle.model.specs.declared.order.Call.the-variants.{ByPort, Flush, 
 use Rattle.model.specs.declared.order.Decoded.{Decoded}
 use Rattle.model.specs.declared.order.Decoded.the-variants.{Asked, Refused}
 use Rattle.model.specs.Shape.{inRange, entryOf}
-use Rattle.model.specs.Order.{Order, decode, lineIn, looks, There}
+use Rattle.model.specs.Order.{Order, decode, looks, There}
 use Rattle.model.specs.Tables.{Model, sound, seen, wordAt, memoryAt, holds, owns, dirty, columnSound}
 use Rattle.model.specs.Step.{Result, wordSupplied, shared, wordFound, applied, accessRule, accessed, flushed, deviceWritten, called, perform, step}
 use Rattle.model.specs.Flat.{Flat, FlatResult, wordIn, markIn, flatAccess, flatPerform, flatStep}
@@ -39,7 +39,7 @@ use Rattle.model.proofs.Applied.{line-after, leaves}
 use Rattle.model.proofs.Written.{line-written, unowned-written, leaves-written}
 use Rattle.model.proofs.Lent.{facts-lent, some-sets}
 use Rattle.model.proofs.Moved.{Moved, access-moves, written-moves, unmarked-access}
-use Rattle.model.proofs.Decoded.{line-there, Sound, decode-sound}
+use Rattle.model.proofs.Decoded.{Sound, decode-sound}
 
 -- Tables that go with a flat memory: what every order keeps.
 pub record Sim (s : Shape) (t : Model) (f : Flat) : Type 0 where
@@ -158,7 +158,7 @@ module _ (s : Shape) (t : Model) (f : Flat) (sim : Sim s t f) (a : ℕ) (line : 
     flush-marks u p h =
         elim (ℕ-discrete p i) [ yes e ↦ rw (e, flush-after .own, flush-own (seen s t a i)) refl | no d ↦ rw (flush-others p h d) (u p h) ]
 
-    flush-held : Is (holds s t a i) → Goes s (flushed s t i a) (flatPerform f (Asked (Flush i a)))
+    flush-held : Is (holds s t a i) → Goes s (flushed s t i a) (flatPerform f (Asked (Flush i) a))
     unfolding flushed flatPerform
     flush-held v = rw v (record {
       agrees = record { refusal = refl; value = λ _. refl; swapped = refl; below-8 = omega arith };
@@ -166,7 +166,7 @@ module _ (s : Shape) (t : Model) (f : Flat) (sim : Sim s t f) (a : ℕ) (line : 
           (flush-line v) (λ u. flush-marks (sim .unmarked a line u));
     })
 
-    flush-missed : Is (not (holds s t a i)) → Goes s (flushed s t i a) (flatPerform f (Asked (Flush i a)))
+    flush-missed : Is (not (holds s t a i)) → Goes s (flushed s t i a) (flatPerform f (Asked (Flush i) a))
     unfolding flushed flatPerform
     flush-missed v = rw (not-true (holds s t a i) v) (record {
       agrees = record
@@ -174,11 +174,11 @@ module _ (s : Shape) (t : Model) (f : Flat) (sim : Sim s t f) (a : ℕ) (line : 
       sim = sim;
     })
 
-    pub flush-goes : Goes s (flushed s t i a) (flatPerform f (Asked (Flush i a)))
+    pub flush-goes : Goes s (flushed s t i a) (flatPerform f (Asked (Flush i) a))
     flush-goes = by-bool (holds s t a i) flush-held flush-missed
 
   -- A device read.
-  pub device-read-goes : Goes s (called s t (DeviceRead a)) (flatPerform f (Asked (DeviceRead a)))
+  pub device-read-goes : Goes s (called s t DeviceRead a) (flatPerform f (Asked DeviceRead a))
   unfolding called flatPerform
   device-read-goes = record {
     agrees = record { refusal = refl; value = λ e. sim .good a line .clean (sim .unmarked a line e); swapped = refl; below-8 = omega arith };
@@ -191,32 +191,32 @@ module _ (s : Shape) (t : Model) (f : Flat) (sim : Sim s t f) (a : ℕ) (line : 
     unfolding wordSupplied
     supplied-is = word-supplied (s .ports) (seen s t a) (wordAt s t a) (memoryAt t a) (wordIn f a) (sim .good a line)
 
-    written : Moved f (flatPerform f (Asked (DeviceWrite mask x a))) (effectAt (Write mask x) (wordIn f a)) Through a
+    written : Moved f (flatPerform f (Asked (DeviceWrite mask x) a)) (effectAt (Write mask x) (wordIn f a)) Through a
     written = written-moves f a mask x
 
-    written-is : wordIn (flatPerform f (Asked (DeviceWrite mask x a)) .after) a ≡ merge mask (wordSupplied s t a) x
+    written-is : wordIn (flatPerform f (Asked (DeviceWrite mask x) a) .after) a ≡ merge mask (wordSupplied s t a) x
     written-is = written .word (rw (sim .flat-words) line) ∙ rw (write-effect mask x (wordIn f a), supplied-is)
 
-    written-agrees : Agrees (deviceWritten s t a mask x .answer) (flatPerform f (Asked (DeviceWrite mask x a)) .answer)
+    written-agrees : Agrees (deviceWritten s t a mask x .answer) (flatPerform f (Asked (DeviceWrite mask x) a) .answer)
     unfolding deviceWritten flatPerform
     written-agrees = record { refusal = refl; value = λ _. refl; swapped = refl; below-8 = omega arith }
 
-    pub device-write-goes : Goes s (deviceWritten s t a mask x) (flatPerform f (Asked (DeviceWrite mask x a)))
+    pub device-write-goes : Goes s (deviceWritten s t a mask x) (flatPerform f (Asked (DeviceWrite mask x) a))
     device-write-goes = record {
       agrees = written-agrees;
-      sim = sim-after _ (leaves-written s t a ready mask x) (flatPerform f (Asked (DeviceWrite mask x a)) .after)
+      sim = sim-after _ (leaves-written s t a ready mask x) (flatPerform f (Asked (DeviceWrite mask x) a) .after)
           (written .words-length ∙ sim .flat-words) (written .marks-length ∙ sim .flat-marks) (written .word-other) (written .mark-other)
           (rw written-is (line-written s t a ready mask x)) (λ _. unowned-written s t a ready mask x);
     }
 
 module _ (s : Shape) (t : Model) (f : Flat) (sim : Sim s t f) where
   -- A call, whatever it asks.
-  called-goes : (c : Call) → There s c → Goes s (called s t c) (flatPerform f (Asked c))
+  called-goes : (c : Call) (a : ℕ) → There s c a → Goes s (called s t c a) (flatPerform f (Asked c a))
   unfolding called flatPerform
-  called-goes (ByPort acc m i a) h = access-goes s t f sim a (h .1) i (h .0) acc m
-  called-goes (Flush i a) h = flush-goes s t f sim a (h .1) i (h .0)
-  called-goes (DeviceRead a) h = device-read-goes s t f sim a h
-  called-goes (DeviceWrite mask x a) h = device-write-goes s t f sim a h mask x
+  called-goes (ByPort acc m i) a h = access-goes s t f sim a (h .1) i (h .0) acc m
+  called-goes (Flush i) a h = flush-goes s t f sim a (h .1) i (h .0)
+  called-goes DeviceRead a h = device-read-goes s t f sim a (h .1)
+  called-goes (DeviceWrite mask x) a h = device-write-goes s t f sim a (h .1) mask x
 
   and-none : (b : Bool) → (b && false) ≡ false
   and-none true = refl
@@ -226,7 +226,7 @@ module _ (s : Shape) (t : Model) (f : Flat) (sim : Sim s t f) where
   perform-goes : (d : Decoded) → Sound s d → Goes s (perform s t d) (flatPerform f d)
   unfolding perform flatPerform
   perform-goes (Refused n) h = record { agrees = record { refusal = refl; value = λ _. refl; swapped = refl; below-8 = h }; sim = sim }
-  perform-goes (Asked c) h = rw (column s t f sim (lineIn c) (line-there s c h), and-none (looks c)) (called-goes c h)
+  perform-goes (Asked c a) h = rw (column s t f sim a (h .1), and-none (looks c)) (called-goes c a h)
 
 pub step-goes : (s : Shape) (t : Model) (f : Flat) → Sim s t f → (o : Order) → Goes s (step s o t) (flatStep s o f)
 unfolding step flatStep

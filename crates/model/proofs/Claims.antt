@@ -17,7 +17,7 @@ use Rattle.model.specs.declared.order.Call.{Call}
 use Rattle.model.specs.declared.order.Call.the-variants.{ByPort, Flush, DeviceRead, DeviceWrite}
 use Rattle.model.specs.declared.order.Decoded.{Decoded}
 use Rattle.model.specs.declared.order.Decoded.the-variants.{Asked, Refused}
-use Rattle.model.specs.Order.{decode, lineIn, looks}
+use Rattle.model.specs.Order.{decode, looks}
 use Rattle.model.specs.Tables.{Model, lentRefusal, columnSound, seen, holds, dirty}
 use Rattle.model.specs.Step.{Result, refuse, wordFound, fetches, evictsOwner, accessRule, accessed, flushed, deviceWritten}
 use Rattle.model.specs.Step.{called, perform, step}
@@ -51,17 +51,17 @@ written-few : (s : Shape) (t : Model) (a mask x : ℕ) → Few (deviceWritten s 
 unfolding deviceWritten
 written-few s t a mask x = (omega (arith, bit-le (not (dirty s t a))), omega arith)
 
-called-few : (s : Shape) (t : Model) (c : Call) → Few (called s t c)
+called-few : (s : Shape) (t : Model) (c : Call) (a : ℕ) → Few (called s t c a)
 unfolding called
-called-few s t (ByPort acc m i a) = accessed-few s t i a acc m
-called-few s t (Flush i a) = flushed-few s t i a
-called-few s t (DeviceRead a) = (omega arith, omega arith)
-called-few s t (DeviceWrite mask x a) = written-few s t a mask x
+called-few s t (ByPort acc m i) a = accessed-few s t i a acc m
+called-few s t (Flush i) a = flushed-few s t i a
+called-few s t DeviceRead a = (omega arith, omega arith)
+called-few s t (DeviceWrite mask x) a = written-few s t a mask x
 
 perform-few : (s : Shape) (t : Model) (d : Decoded) → Few (perform s t d)
 unfolding perform
 perform-few s t (Refused n) = (omega arith, omega arith)
-perform-few s t (Asked c) = by-cond Few (looks c && not (columnSound s t (lineIn c))) _ _ (λ _. (omega arith, omega arith)) (λ _. called-few s t c)
+perform-few s t (Asked c a) = by-cond Few (looks c && not (columnSound s t a)) _ _ (λ _. (omega arith, omega arith)) (λ _. called-few s t c a)
 
 pub few-accesses : FewAccesses
 unfolding step
@@ -83,17 +83,17 @@ written-still : (s : Shape) (t : Model) (a mask x : ℕ) → Still t (deviceWrit
 unfolding deviceWritten
 written-still s t a mask x n = absurd (n refl)
 
-called-still : (s : Shape) (t : Model) (c : Call) → Still t (called s t c)
+called-still : (s : Shape) (t : Model) (c : Call) (a : ℕ) → Still t (called s t c a)
 unfolding called
-called-still s t (ByPort acc m i a) = accessed-still s t i a acc m
-called-still s t (Flush i a) = flushed-still s t i a
-called-still s t (DeviceRead a) = λ n. absurd (n refl)
-called-still s t (DeviceWrite mask x a) = written-still s t a mask x
+called-still s t (ByPort acc m i) a = accessed-still s t i a acc m
+called-still s t (Flush i) a = flushed-still s t i a
+called-still s t DeviceRead a = λ n. absurd (n refl)
+called-still s t (DeviceWrite mask x) a = written-still s t a mask x
 
 perform-still : (s : Shape) (t : Model) (d : Decoded) → Still t (perform s t d)
 unfolding perform
 perform-still s t (Refused k) = λ n. refl
-perform-still s t (Asked c) = by-cond (Still t) (looks c && not (columnSound s t (lineIn c))) _ _ (λ _ n. refl) (λ _. called-still s t c)
+perform-still s t (Asked c a) = by-cond (Still t) (looks c && not (columnSound s t a)) _ _ (λ _ n. refl) (λ _. called-still s t c a)
 
 pub refused-changes-nothing : RefusedChangesNothing
 unfolding step

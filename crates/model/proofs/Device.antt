@@ -60,23 +60,23 @@ pub device-guarantee : DeviceGuarantee
 unfolding step perform called
 device-guarantee s t accepted os a clear o asks =
     let sim = run-sim s os (fresh s t) (flatStart (t .memory)) (fresh-sim s t accepted) in
-    let there : a < s .lines = rw asks at (decode-sound s o) in
+    let there : a < s .lines = (rw asks at (decode-sound s o)) .1 in
     rw (facts-lent s (modelRun s os (fresh s t)) (record { range = sim .range; sizes = sim .sized }), asks, memory-has s t accepted os a there clear)
 
--- Under mark 0 a read, by a port or by a device, answers the flat word, and its value is compared.
+-- Under mark 0 a read, by a port or by a device, is accepted and answers the flat word, and its value is compared.
 read-value : (f : Flat) (a : ℕ) (d : Decoded) → isReadOf a d ≡ true → markIn f a ≡ false
-    → (flatPerform f d .answer .compared ≡ true) × (flatPerform f d .answer .value ≡ wordIn f a)
+    → (flatPerform f d .answer .refusal ≡ 0) × ((flatPerform f d .answer .compared ≡ true) × (flatPerform f d .answer .value ≡ wordIn f a))
 unfolding flatPerform flatAccess isReadOf
 read-value f a (Refused k) h u = absurd (false≢true h)
-read-value f a (Asked (ByPort Read m i b)) h u = rw (eqb-true b a h) (refl, refl)
-read-value f a (Asked (ByPort (Write mask x) m i b)) h u = absurd (false≢true h)
-read-value f a (Asked (ByPort (Swap mask x compare) m i b)) h u = absurd (false≢true h)
-read-value f a (Asked (Flush i b)) h u = absurd (false≢true h)
-read-value f a (Asked (DeviceRead b)) h u = rw (eqb-true b a h, u) (refl, refl)
-read-value f a (Asked (DeviceWrite mask x b)) h u = absurd (false≢true h)
+read-value f a (Asked (ByPort Read m i) b) h u = rw (eqb-true b a h) (refl, (refl, refl))
+read-value f a (Asked (ByPort (Write mask x) m i) b) h u = absurd (false≢true h)
+read-value f a (Asked (ByPort (Swap mask x compare) m i) b) h u = absurd (false≢true h)
+read-value f a (Asked (Flush i) b) h u = absurd (false≢true h)
+read-value f a (Asked DeviceRead b) h u = rw (eqb-true b a h, u) (refl, (refl, refl))
+read-value f a (Asked (DeviceWrite mask x) b) h u = absurd (false≢true h)
 
 -- After a device write the flat memory has its word, under mark 0.
-written-flat : (f : Flat) (a mask x : ℕ) {d : Decoded} → d ≡ Asked (DeviceWrite mask x a) → a < length (f .words) → a < length (f .marks)
+written-flat : (f : Flat) (a mask x : ℕ) {d : Decoded} → d ≡ Asked (DeviceWrite mask x) a → a < length (f .words) → a < length (f .marks)
     → (wordIn (flatPerform f d .after) a ≡ merge mask (wordIn f a) x) × (markIn (flatPerform f d .after) a ≡ false)
 written-flat f a mask x e lw lm =
     let moves = written-moves f a mask x in
@@ -87,7 +87,8 @@ unfolding flatStep
 device-write-seen s t accepted os mask x a o asks n reads =
     let f = flatRun s os (flatStart (t .memory)) in
     let sim = run-sim s os (fresh s t) (flatStart (t .memory)) (fresh-sim s t accepted) in
-    let there : a < s .lines = rw asks at (decode-sound s o) in
+    let there : a < s .lines = (rw asks at (decode-sound s o)) .1 in
     let flat = written-flat f a mask x asks (rw (sim .flat-words) there) (rw (sim .flat-marks) there) in
     let read = read-value (flatStep s o f .after) a (decode s n) reads (flat .1) in
-    step-goes s _ (flatStep s o f .after) (step-goes s _ f sim o .sim) n .agrees .value (read .0) ∙ read .1 ∙ flat .0
+    let agrees = step-goes s _ (flatStep s o f .after) (step-goes s _ f sim o .sim) n .agrees in
+    (agrees .refusal ∙ read .0, agrees .value (read .1 .0) ∙ read .1 .1 ∙ flat .0)

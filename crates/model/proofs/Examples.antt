@@ -12,14 +12,14 @@ use Rattle.model.specs.Step.{putBelow, wordSupplied, byteAnswered, wordA
 use Rattle.model.specs.Step.{applied, accessRule, accessed, flushed, deviceWritten, called, perform, step}
 use Rattle.model.specs.Fresh.{zeroed, fresh}
 use Rattle.model.specs.Fourteen.{table, twoPorts, start, played, FourteenHold}
-use Rattle.model.specs.Devices.{written, twoOwners, ownersWritten, noState, noneWritten, DevicesHold}
+use Rattle.model.specs.Devices.{written, twoOwners, ownersWritten, ownersLeft, noState, noneWritten, DevicesHold}
 
 tables-hold : FourteenHold × DevicesHold
 unfolding code stateOf merge mergeLow effectAt rule flushRule snooped updates inRange fits refusalOf decode checked callOf allBelow anyBelow orElse
     lowest atOr lentRefusal sound seen wordAt dirty columnSound putBelow wordSupplied byteAnswered wordAnswered shared wordFound fetches evictsOwner
     byteAfter wordAfter applied accessRule accessed flushed deviceWritten called perform step zeroed fresh table twoPorts start played
-    written twoOwners ownersWritten noState noneWritten
-tables-hold = (refl, (refl, refl, refl))
+    written twoOwners ownersWritten ownersLeft noState noneWritten
+tables-hold = (refl, (refl, refl, refl, refl))
 
 pub fourteen-hold : FourteenHold
 fourteen-hold = tables-hold .0

@@ -50,7 +50,7 @@ set-or true old = refl
 set-or false old = refl
 
 access-event : (f : Flat) (acc : Access) (m : Mode) (i a : ℕ) (r : FlatResult) → Moved f r (effectAt acc (wordIn f a)) m a → a < length (f .marks)
-    → markIn (r .after) a ≡ moved (eventOf a (Asked (ByPort acc m i a)) (r .answer .swapped)) (markIn f a)
+    → markIn (r .after) a ≡ moved (eventOf a (Asked (ByPort acc m i) a) (r .answer .swapped)) (markIn f a)
 unfolding eventOf
 access-event f acc Through i a r moves h = rw (eq-eqb a a refl) (moves .mark h)
 access-event f acc Back i a r moves h =
@@ -58,13 +58,13 @@ access-event f acc Back i a r moves h =
     (moves .mark h ∙ set-or (writes (effectAt acc (wordIn f a) .outcome)) (markIn f a))
 
 -- An access of another line is no event.
-other-event : (acc : Access) (m : Mode) (i a b n : ℕ) → b ≢ a → eventOf a (Asked (ByPort acc m i b)) n ≡ neither
+other-event : (acc : Access) (m : Mode) (i a b n : ℕ) → b ≢ a → eventOf a (Asked (ByPort acc m i) b) n ≡ neither
 unfolding eventOf
 other-event acc Through i a b n d = rw (ne-eqb b a d)
 other-event acc Back i a b n d = rw (ne-eqb b a d)
 
 access-moved : (a : ℕ) (f : Flat) (acc : Access) (m : Mode) (i b : ℕ) → a < length (f .marks)
-    → markIn (flatAccess f acc m b .after) a ≡ moved (eventOf a (Asked (ByPort acc m i b)) (flatAccess f acc m b .answer .swapped)) (markIn f a)
+    → markIn (flatAccess f acc m b .after) a ≡ moved (eventOf a (Asked (ByPort acc m i) b) (flatAccess f acc m b .answer .swapped)) (markIn f a)
 access-moved a f acc m i b h =
     elim (ℕ-discrete b a) [
       | yes e ↦ rw e (access-event f acc m i a (flatAccess f acc m a) (access-moves f m a acc) h)
@@ -75,18 +75,18 @@ mark-moves : (a : ℕ) (f : Flat) (d : Decoded) → a < length (f .marks)
     → markIn (flatPerform f d .after) a ≡ moved (eventOf a d (flatPerform f d .answer .swapped)) (markIn f a)
 unfolding flatPerform flatAccess eventOf
 mark-moves a f (Refused n) h = refl
-mark-moves a f (Asked (Flush i b)) h = refl
-mark-moves a f (Asked (DeviceRead b)) h = refl
-mark-moves a f (Asked (ByPort acc m i b)) h = access-moved a f acc m i b h
-mark-moves a f (Asked (DeviceWrite mask x b)) h = access-moved a f (Write mask x) Through 0 b h
+mark-moves a f (Asked (Flush i) b) h = refl
+mark-moves a f (Asked DeviceRead b) h = refl
+mark-moves a f (Asked (ByPort acc m i) b) h = access-moved a f acc m i b h
+mark-moves a f (Asked (DeviceWrite mask x) b) h = access-moved a f (Write mask x) Through 0 b h
 
 marks-length : (f : Flat) (d : Decoded) → length (flatPerform f d .after .marks) ≡ length (f .marks)
 unfolding flatPerform
 marks-length f (Refused n) = refl
-marks-length f (Asked (Flush i b)) = refl
-marks-length f (Asked (DeviceRead b)) = refl
-marks-length f (Asked (ByPort acc m i b)) = access-moves f m b acc .marks-length
-marks-length f (Asked (DeviceWrite mask x b)) = written-moves f b mask x .marks-length
+marks-length f (Asked (Flush i) b) = refl
+marks-length f (Asked DeviceRead b) = refl
+marks-length f (Asked (ByPort acc m i) b) = access-moves f m b acc .marks-length
+marks-length f (Asked (DeviceWrite mask x) b) = written-moves f b mask x .marks-length
 
 -- A list of orders folds its events.
 mark-folds : (s : Shape) (a : ℕ) (os : List Order) (f : Flat) → a < length (f .marks)

@@ -79,7 +79,7 @@ module _ (f : Flat) (m : Mode) (a : ℕ) where
       (λ h. rw (swap-fails mask compare x (wordIn f a) h, not-true (eqb (half mask (wordIn f a)) compare) h) (read-moves _ _ refl refl refl))
 
 -- A device write moves it as a write-through write does.
-pub written-moves : (f : Flat) (a mask x : ℕ) → Moved f (flatPerform f (Asked (DeviceWrite mask x a))) (effectAt (Write mask x) (wordIn f a)) Through a
+pub written-moves : (f : Flat) (a mask x : ℕ) → Moved f (flatPerform f (Asked (DeviceWrite mask x) a)) (effectAt (Write mask x) (wordIn f a)) Through a
 unfolding flatPerform flatAccess
 written-moves f a mask x = access-moves f Through a (Write mask x)
 

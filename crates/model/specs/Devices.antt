@@ -1,11 +1,12 @@
--- Device writes, as tables in the form of the fourteen orders: worked out by hand from document 02's first request, which has no example.
+-- Device writes, as tables in the form of the fourteen orders. (Document 02's first request has no example.)
 -- The proof is `devices-hold` in proofs/Examples.antt.
 use Prim.Native.Nat.{ℕ}
 use mathlib.Core.List.{List, [], _∷_}
 use Rattle.protocol.specs.declared.state.Mode.the-variants.{Through, Back}
 use Rattle.model.specs.Order.{Order}
 use Rattle.model.specs.Tables.{Model, model}
-use Rattle.model.specs.Fourteen.{order, read, write, answer, Row, row, start, Holds}
+use Rattle.model.specs.Step.{step}
+use Rattle.model.specs.Fourteen.{order, read, write, answer, Row, row, twoPorts, start, played, Gives}
 
 -- A device write. The word's other fields are ignored: here they are all ones.
 abbrev deviceWrite : ℕ → ℕ → ℕ → Order
@@ -32,12 +33,16 @@ written =
     row (order 6 Through 0 0xFF 0 0 1) (answer 4 0 0 0 0) 0 0 6 0x100000008 ∷
     []
 
--- Tables that fail the audit: line 0 in M at both ports, with different words. The lowest owner's word is merged, and both become I.
+-- Tables that fail the audit: line 1 in M at both ports, with different words. The lowest owner's word is merged, and both become I; tags
+-- and data stay.
 unfoldable pub twoOwners : Model
-twoOwners = model (5 ∷ 7 ∷ []) (0 ∷ 0 ∷ []) (12 ∷ 12 ∷ []) (0x11 ∷ 0x22 ∷ [])
+twoOwners = model (5 ∷ 7 ∷ []) (1 ∷ 1 ∷ []) (12 ∷ 12 ∷ []) (0x11 ∷ 0x22 ∷ [])
 
 unfoldable pub ownersWritten : List Row
-ownersWritten = row (deviceWrite 0 0x02 0xAB00) (answer 0 0 0 0 1) 0 0 0xAB11 7 ∷ []
+ownersWritten = row (deviceWrite 1 0x02 0xAB00) (answer 0 0 0 0 1) 0 0 5 0xAB11 ∷ []
+
+unfoldable pub ownersLeft : Model
+ownersLeft = model (5 ∷ 0xAB11 ∷ []) (1 ∷ 1 ∷ []) (0 ∷ 0 ∷ []) (0x11 ∷ 0x22 ∷ [])
 
 -- A byte that is no state, at port 1.
 unfoldable pub noState : Model
@@ -47,4 +52,7 @@ unfoldable pub noneWritten : List Row
 noneWritten = row (deviceWrite 0 0xFF 1) (answer 8 0 0 0 0) 12 0 5 7 ∷ []
 
 abbrev pub DevicesHold : Type 0
-DevicesHold = Holds written start × Holds ownersWritten twoOwners × Holds noneWritten noState
+DevicesHold =
+    Gives (played written start) written
+    × Gives (played ownersWritten twoOwners) ownersWritten × Gives (step twoPorts (deviceWrite 1 0x02 0xAB00) twoOwners .after) ownersLeft
+    × Gives (played noneWritten noState) noneWritten

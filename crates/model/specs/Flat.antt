@@ -65,10 +65,10 @@ flatAccess f (Swap mask x compare) m a =
 -- A device write merges into F[a] and clears the mark, as a write-through write does.
 unfoldable pub flatPerform : Flat → Decoded → FlatResult
 flatPerform f (Refused n) = flatResult (flatAnswer n 0 0 true) f
-flatPerform f (Asked (ByPort acc m i a)) = flatAccess f acc m a
-flatPerform f (Asked (Flush i a)) = flatResult (flatAnswer 0 0 0 true) f
-flatPerform f (Asked (DeviceRead a)) = flatResult (flatAnswer 0 (wordIn f a) 0 (not (markIn f a))) f
-flatPerform f (Asked (DeviceWrite mask x a)) = flatResult (flatAnswer 0 0 0 true) (flatWrite f Through a (merge mask (wordIn f a) x))
+flatPerform f (Asked (ByPort acc m i) a) = flatAccess f acc m a
+flatPerform f (Asked (Flush i) a) = flatResult (flatAnswer 0 0 0 true) f
+flatPerform f (Asked DeviceRead a) = flatResult (flatAnswer 0 (wordIn f a) 0 (not (markIn f a))) f
+flatPerform f (Asked (DeviceWrite mask x) a) = flatResult (flatAnswer 0 0 0 true) (flatWrite f Through a (merge mask (wordIn f a) x))
 
 unfoldable pub flatStep : Shape → Order → Flat → FlatResult
 flatStep s o f = flatPerform f (decode s o)

@@ -29,11 +29,11 @@ pub data Event : Type 0 where
 -- Of an order that was taken apart, and whose swapped number is n.
 unfoldable pub eventOf : ℕ → Decoded → ℕ → Event
 eventOf a (Refused k) n = neither
-eventOf a (Asked (ByPort acc Through i b)) n = cond (eqb b a) clears neither
-eventOf a (Asked (ByPort acc Back i b)) n = cond (eqb b a && (isWrite acc || eqb n 1)) sets neither
-eventOf a (Asked (Flush i b)) n = neither
-eventOf a (Asked (DeviceRead b)) n = neither
-eventOf a (Asked (DeviceWrite mask x b)) n = cond (eqb b a) clears neither
+eventOf a (Asked (ByPort acc Through i) b) n = cond (eqb b a) clears neither
+eventOf a (Asked (ByPort acc Back i) b) n = cond (eqb b a && (isWrite acc || eqb n 1)) sets neither
+eventOf a (Asked (Flush i) b) n = neither
+eventOf a (Asked DeviceRead b) n = neither
+eventOf a (Asked (DeviceWrite mask x) b) n = cond (eqb b a) clears neither
 
 -- The events of a list of orders, from a flat memory on, and that memory after them.
 unfoldable pub eventsOf : Shape → ℕ → List Order → Flat → List Event
@@ -67,21 +67,22 @@ modelRun s (o ∷ os) t = modelRun s os (step s o t .after)
 -- A read of line a, by a port or by a device.
 unfoldable pub isReadOf : ℕ → Decoded → Bool
 isReadOf a (Refused k) = false
-isReadOf a (Asked (ByPort Read m i b)) = eqb b a
-isReadOf a (Asked (ByPort (Write mask x) m i b)) = false
-isReadOf a (Asked (ByPort (Swap mask x compare) m i b)) = false
-isReadOf a (Asked (Flush i b)) = false
-isReadOf a (Asked (DeviceRead b)) = eqb b a
-isReadOf a (Asked (DeviceWrite mask x b)) = false
+isReadOf a (Asked (ByPort Read m i) b) = eqb b a
+isReadOf a (Asked (ByPort (Write mask x) m i) b) = false
+isReadOf a (Asked (ByPort (Swap mask x compare) m i) b) = false
+isReadOf a (Asked (Flush i) b) = false
+isReadOf a (Asked DeviceRead b) = eqb b a
+isReadOf a (Asked (DeviceWrite mask x) b) = false
 
 -- What a device wrote is seen at once, without a flush: after any list of orders from a fresh model, whatever the caches then hold, and a
--- device write of a line, a read of it by any port, in either mode, and a device read of it answer the line's flat word with the operand
--- merged under the mask.
+-- device write of a line, a read of it by any port, in either mode, and a device read of it are accepted and answer the line's flat word with
+-- the operand merged under the mask.
 abbrev pub DeviceWriteSeen : Type 0
 DeviceWriteSeen =
-    (s : Shape) (t : Model) → lentRefusal s t ≡ 0 → (os : List Order) (mask x a : ℕ) (o : Order) → decode s o ≡ Asked (DeviceWrite mask x a)
+    (s : Shape) (t : Model) → lentRefusal s t ≡ 0 → (os : List Order) (mask x a : ℕ) (o : Order) → decode s o ≡ Asked (DeviceWrite mask x) a
     → (n : Order) → isReadOf a (decode s n) ≡ true
-    → step s n (step s o (modelRun s os (fresh s t)) .after) .answer .value ≡ merge mask (wordIn (flatRun s os (flatStart (t .memory))) a) x
+    → let read = step s n (step s o (modelRun s os (fresh s t)) .after) .answer in
+    (read .refusal ≡ 0) × (read .value ≡ merge mask (wordIn (flatRun s os (flatStart (t .memory))) a) x)
 
 -- The device guarantee in one sentence: after any list of orders from a fresh model, a device read of a line answers its flat word, if
 -- no order set the line's mark since the last that cleared it, or, if none cleared it, since the start. Of other lines nothing is said;
@@ -90,5 +91,5 @@ abbrev pub DeviceGuarantee : Type 0
 DeviceGuarantee =
     (s : Shape) (t : Model) → lentRefusal s t ≡ 0 → (os : List Order) (a : ℕ)
     → (SetSince (eventsOf s a os (flatStart (t .memory))) → ⊥)
-    → (o : Order) → decode s o ≡ Asked (DeviceRead a)
+    → (o : Order) → decode s o ≡ Asked DeviceRead a
     → step s o (modelRun s os (fresh s t)) .answer ≡ accepted (wordIn (flatRun s os (flatStart (t .memory))) a) 0 1 0

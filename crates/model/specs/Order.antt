@@ -27,25 +27,25 @@ modeIn w = cond (eqb (bits w 3 1) 1) Back Through
 abbrev pub hasPort : ℕ → Bool
 hasPort kind = ltb kind 4
 
--- Refusals 4 to 7, in checking order, else the call.
+-- Refusals 4 to 7, in checking order, else the call and its line.
 unfoldable pub checked : Shape → ℕ → ℕ → ℕ → ℕ → Call → Decoded
 checked s kind port mask line call =
     cond (leb 6 kind) (Refused 4)
     (cond (hasPort kind && leb (s .ports) port) (Refused 5)
     (cond (leb (s .lines) line) (Refused 6)
     (cond (eqb kind 2 && not (eqb mask 0x0F || eqb mask 0xF0)) (Refused 7)
-    (Asked call))))
+    (Asked call line))))
 
 -- What the kinds 0 to 5 ask: read, write, compare-and-swap, flush, device read and device write. Each takes the fields that it uses.
 -- (Kinds 6 and 7 are refused first.)
-unfoldable pub callOf : ℕ → Mode → ℕ → ℕ → ℕ → ℕ → ℕ → Call
-callOf kind m port mask line compare x =
-    cond (eqb kind 0) (ByPort Read m port line)
-    (cond (eqb kind 1) (ByPort (Write mask x) m port line)
-    (cond (eqb kind 2) (ByPort (Swap mask x compare) m port line)
-    (cond (eqb kind 3) (Flush port line)
-    (cond (eqb kind 4) (DeviceRead line)
-    (DeviceWrite mask x line)))))
+unfoldable pub callOf : ℕ → Mode → ℕ → ℕ → ℕ → ℕ → Call
+callOf kind m port mask compare x =
+    cond (eqb kind 0) (ByPort Read m port)
+    (cond (eqb kind 1) (ByPort (Write mask x) m port)
+    (cond (eqb kind 2) (ByPort (Swap mask x compare) m port)
+    (cond (eqb kind 3) (Flush port)
+    (cond (eqb kind 4) DeviceRead
+    (DeviceWrite mask x)))))
 
 -- The fields of the word: 0–2 kind, 3 mode, 4–7 port, 8–15 byte mask, 16–31 line, 32–63 compare value.
 unfoldable pub decode : Shape → Order → Decoded
@@ -55,25 +55,21 @@ decode s o =
     let mask = bits (o .word) 8 8 in
     let line = bits (o .word) 16 16 in
     let compare = bits (o .word) 32 32 in
-    checked s kind port mask line (callOf kind (modeIn (o .word)) port mask line compare (o .operand))
-
--- The line of a call.
-abbrev pub lineIn : Call → ℕ
-lineIn (ByPort acc m i a) = a
-lineIn (Flush i a) = a
-lineIn (DeviceRead a) = a
-lineIn (DeviceWrite mask x a) = a
+    checked s kind port mask line (callOf kind (modeIn (o .word)) port mask compare (o .operand))
 
 -- The call looks at the ports' entries at its line's index: all but a device read.
 abbrev pub looks : Call → Bool
-looks (ByPort acc m i a) = true
-looks (Flush i a) = true
-looks (DeviceRead a) = false
-looks (DeviceWrite mask x a) = true
+looks (ByPort acc m i) = true
+looks (Flush i) = true
+looks DeviceRead = false
+looks (DeviceWrite mask x) = true
 
--- The call names a port below ports, where it names one, and a line below lines.
-abbrev pub There : Shape → Call → Type 0
-There s (ByPort acc m i a) = (i < s .ports) × (a < s .lines)
-There s (Flush i a) = (i < s .ports) × (a < s .lines)
-There s (DeviceRead a) = a < s .lines
-There s (DeviceWrite mask x a) = a < s .lines
+-- The call's port, where it names one, is below ports; and its line is below lines.
+abbrev pub PortThere : Shape → Call → Type 0
+PortThere s (ByPort acc m i) = i < s .ports
+PortThere s (Flush i) = i < s .ports
+PortThere s DeviceRead = Unit {0}
+PortThere s (DeviceWrite mask x) = Unit {0}
+
+abbrev pub There : Shape → Call → ℕ → Type 0
+There s c a = PortThere s c × (a < s .lines)

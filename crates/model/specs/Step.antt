@@ -22,7 +22,7 @@ use Rattle.model.specs.declared.order.Decoded.{Decoded}
 use Rattle.model.specs.declared.order.Decoded.the-variants.{Asked, Refused}
 use Rattle.model.specs.declared.answer.Answer.{Answer}
 use Rattle.model.specs.Shape.{tagOf, entryOf}
-use Rattle.model.specs.Order.{Order, lineIn, looks, decode}
+use Rattle.model.specs.Order.{Order, looks, decode}
 use Rattle.model.specs.Below.{anyBelow, lowest, atOr}
 use Rattle.model.specs.Tables.{Model, lentRefusal, stateAt, homeAt, seen, wordAt, memoryAt, holds, owns, dirty, columnSound}
 
@@ -134,17 +134,17 @@ deviceWritten s t a mask x =
       words = t .words;
     })
 
--- What a call does, where no entry that it looks at is unsound. A device read fetches memory's word.
-unfoldable pub called : Shape → Model → Call → Result
-called s t (ByPort acc m i a) = accessed s t i a acc m
-called s t (Flush i a) = flushed s t i a
-called s t (DeviceRead a) = result (accepted (memoryAt t a) 0 1 0) t
-called s t (DeviceWrite mask x a) = deviceWritten s t a mask x
+-- What a call does to line a, where no entry that it looks at is unsound. A device read fetches memory's word.
+unfoldable pub called : Shape → Model → Call → ℕ → Result
+called s t (ByPort acc m i) a = accessed s t i a acc m
+called s t (Flush i) a = flushed s t i a
+called s t DeviceRead a = result (accepted (memoryAt t a) 0 1 0) t
+called s t (DeviceWrite mask x) a = deviceWritten s t a mask x
 
 -- Refusal 8, where the call looks at the entries at its line's index and one of them is not sound.
 unfoldable pub perform : Shape → Model → Decoded → Result
 perform s t (Refused n) = refuse n t
-perform s t (Asked c) = cond (looks c && not (columnSound s t (lineIn c))) (refuse 8 t) (called s t c)
+perform s t (Asked c a) = cond (looks c && not (columnSound s t a)) (refuse 8 t) (called s t c a)
 
 -- Refusals 2 and 3 come first, then those of the order.
 unfoldable pub step : Shape → Order → Model → Result

@@ -59,6 +59,6 @@ owns s t a p = owner (seen s t a p)
 unfoldable pub dirty : Shape → Model → ℕ → Bool
 dirty s t a = anyBelow (owns s t a) (s .ports)
 
--- Every port's entry at the line's index is sound. Where this fails, an order by a port, and finding, give refusal 8.
+-- Every port's entry at the line's index is sound. Where this fails, an order that looks at them, and finding, give refusal 8.
 unfoldable pub columnSound : Shape → Model → ℕ → Bool
 columnSound s t a = allBelow (λ p. sound s t (entryOf s a p)) (s .ports)

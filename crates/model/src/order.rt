@@ -2,17 +2,17 @@
 use protocol::state::Mode;
 use words::access::Access;
 
-// What an order asks: an access in a mode, by a port, of a line; a flush, by a port, of a line; a device read of a line; a device write
-// with a mask and an operand, of a line.
+// What an order asks of its line: an access in a mode, by a port; a flush, by a port; a device read; a device write, with a mask and an
+// operand.
 pub enum Call {
-    ByPort(Access, Mode, usize, usize),
-    Flush(usize, usize),
-    DeviceRead(usize),
-    DeviceWrite(u8, u64, usize),
+    ByPort(Access, Mode, usize),
+    Flush(usize),
+    DeviceRead,
+    DeviceWrite(u8, u64),
 }
 
-// An order word and its operand, taken apart: the call, or the number of the refusal.
+// An order word and its operand, taken apart: the call and its line, or the number of the refusal.
 pub enum Decoded {
-    Asked(Call),
+    Asked(Call, usize),
     Refused(u64),
 }

@@ -121,11 +121,7 @@ fn audited(memory: &[u8; 16], tags: &[u8; 8], states: &[u8; 2], data: &[u8; 16])
 
 // Where line a's word stands, and the view of it: on words, as finding takes them.
 fn look(memory: &[u8; 16], tags: &[u8; 8], states: &[u8; 2], data: &[u8; 16], a: usize) {
-    let s = Shape {
-        ports: 2,
-        sets: 1,
-        lines: 2,
-    };
+    let s = shape_of(2, 2);
     let lines = two_words(memory);
     let labels = two_tags(tags);
     let words = two_words(data);
@@ -146,6 +142,95 @@ fn look(memory: &[u8; 16], tags: &[u8; 8], states: &[u8; 2], data: &[u8; 16], a:
     put_words(find::view_line(s, &lines, &labels, states, &words, a));
 }
 
+// A shape of one set.
+fn shape_of(ports: usize, lines: usize) -> Shape {
+    Shape {
+        ports,
+        sets: 1,
+        lines,
+    }
+}
+
+// Orders, each a word and then its operand. In the word: kind, mode, port, mask, line and compare value.
+
+// Those that the scope lists.
+const FOURTEEN: [u64; 28] = [
+    0x8,
+    0,
+    0x18,
+    0,
+    0xFF19,
+    9,
+    0x4,
+    0,
+    0x0,
+    0,
+    0x4,
+    0,
+    0x900000F0A,
+    4,
+    0x900000F1A,
+    0,
+    0x10101,
+    0x1FF,
+    0x10013,
+    0,
+    0x10001F01A,
+    0,
+    0x10019,
+    0,
+    0x10001F002,
+    0,
+    0x20,
+    0,
+];
+
+// A device writes byte 1 of line 1, which port 0 holds clean (port and mode, all ones in the word, are ignored); port 1 writes the line in
+// write back and port 0 reads it; a device writes byte 0, merged into the owner's word; port 0 reads what it wrote.
+const DEVICE: [u64; 10] = [
+    0x102FD,
+    0xAB00,
+    0x1FF19,
+    7,
+    0x10008,
+    0,
+    0x10105,
+    0xFF09,
+    0x10008,
+    0,
+];
+
+// Refusal 4, kinds 6 and 7; 5, port 2; 6, line 2, by a device too, whose port is not asked; 7, the masks 0 and 0xFF.
+const REFUSED: [u64; 14] = [
+    0x6,
+    0,
+    0x7,
+    0,
+    0x23,
+    0,
+    0x20004,
+    0,
+    0x200F5,
+    0,
+    0x2,
+    0,
+    0xFF02,
+    0,
+];
+
+// Where an entry is no state: an access, a flush and a device write are refused with 8; a device read looks at no entry.
+const UNSOUND: [u64; 8] = [0x8, 0, 0x13, 0, 0x5, 0, 0x4, 0];
+
+// Refusal 2, nine ports; 3, a memory of two words for one line; and the others.
+fn refusals(memory: &mut [u8; 16], tags: &mut [u8; 8], states: &mut [u8; 2], data: &mut [u8; 16]) {
+    let read = [0x8u64, 0];
+    run(shape_of(9, 2), memory, tags, states, data, &read);
+    run(shape_of(2, 1), memory, tags, states, data, &read);
+    run(shape_of(2, 2), memory, tags, states, data, &REFUSED);
+    states[0] = 3;
+    run(shape_of(2, 2), memory, tags, states, data, &UNSOUND);
+}
+
 fn main() {
     let mut memory = [0u8; 16];
     endian::write_eight(&mut memory, 0, 5);
@@ -153,118 +238,17 @@ fn main() {
     let mut tags = [1u8; 8];
     let mut states = [1u8; 2];
     let mut data = [1u8; 16];
-    let s = Shape {
-        ports: 2,
-        sets: 1,
-        lines: 2,
-    };
+    let s = shape_of(2, 2);
     moesi::moesi_fresh(2, 1, 2, &memory, &mut tags, &mut states, &mut data);
-
-    // Kind, mode, port, mask, line and compare value in the word, as the scope lists them.
-    let fourteen = [
-        0x8u64,
-        0,
-        0x18,
-        0,
-        0xFF19,
-        9,
-        0x4,
-        0,
-        0x0,
-        0,
-        0x4,
-        0,
-        0x900000F0A,
-        4,
-        0x900000F1A,
-        0,
-        0x10101,
-        0x1FF,
-        0x10013,
-        0,
-        0x10001F01A,
-        0,
-        0x10019,
-        0,
-        0x10001F002,
-        0,
-        0x20,
-        0,
-    ];
-    run(s, &mut memory, &mut tags, &mut states, &mut data, &fourteen);
+    run(s, &mut memory, &mut tags, &mut states, &mut data, &FOURTEEN);
     audited(&memory, &tags, &states, &data);
     look(&memory, &tags, &states, &data, 0);
     look(&memory, &tags, &states, &data, 1);
     look(&memory, &tags, &states, &data, 2);
-
-    // A device writes byte 1 of line 1, which port 0 holds clean (port and mode, all ones in the word, are ignored); port 1 writes the line in
-    // write back and port 0 reads it; a device writes byte 0, merged into the owner's word; port 0 reads what it wrote.
-    let device = [
-        0x102FDu64,
-        0xAB00,
-        0x1FF19,
-        7,
-        0x10008,
-        0,
-        0x10105,
-        0xFF09,
-        0x10008,
-        0,
-    ];
-    run(s, &mut memory, &mut tags, &mut states, &mut data, &device);
+    run(s, &mut memory, &mut tags, &mut states, &mut data, &DEVICE);
     audited(&memory, &tags, &states, &data);
     look(&memory, &tags, &states, &data, 1);
-
-    // Refusal 2, nine ports; 3, a memory of two words for one line; 4, kinds 6 and 7; 5, port 2; 6, line 2, by a device too, whose port is not
-    // asked; 7, the masks 0 and 0xFF.
-    let nine = Shape {
-        ports: 9,
-        sets: 1,
-        lines: 2,
-    };
-    let one = Shape {
-        ports: 2,
-        sets: 1,
-        lines: 1,
-    };
-    let refused = [
-        0x6u64,
-        0,
-        0x7,
-        0,
-        0x23,
-        0,
-        0x20004,
-        0,
-        0x200F5,
-        0,
-        0x2,
-        0,
-        0xFF02,
-        0,
-    ];
-    run(
-        nine,
-        &mut memory,
-        &mut tags,
-        &mut states,
-        &mut data,
-        &fourteen[..2],
-    );
-    run(
-        one,
-        &mut memory,
-        &mut tags,
-        &mut states,
-        &mut data,
-        &fourteen[..2],
-    );
-    run(s, &mut memory, &mut tags, &mut states, &mut data, &refused);
-
-    // Refusal 8: a byte that is no state. A device write is refused too; a device read looks at no entry.
-    states[0] = 3;
-    let unsound = [0x8u64, 0, 0x13, 0, 0x5, 0, 0x4, 0];
-    run(s, &mut memory, &mut tags, &mut states, &mut data, &unsound);
+    refusals(&mut memory, &mut tags, &mut states, &mut data);
     audited(&memory, &tags, &states, &data);
     look(&memory, &tags, &states, &data, 0);
 }

@@ -10,6 +10,8 @@ use Rattle.model.specs.declared.shape.Shape.{Shape}
 use Rattle.model.specs.declared.shape.Place.{Place}
 use Rattle.model.specs.Tables.{Model, holds, owns, columnSound}
 use Rattle.ports.specs.declared.survey.Masks.{Masks}
+use Rattle.ports.specs.declared.survey.Look.{Look}
+use Rattle.ports.specs.Line.{lineOf}
 
 -- The n ports from a on that pass the test: bit 0 is port a's.
 unfoldable pub portsFrom : (ℕ → Bool) → ℕ → ℕ → ℕ
@@ -40,10 +42,10 @@ saysOf here near b =
 unfoldable pub lookLanes : Place → ℕ → ℕ → ℕ
 lookLanes x t b = saysOf (eqb t (x .tag)) (ltb t (x .limit)) b
 
--- What is taken for said where no port is asked.
-abbrev pub unasked : Masks
-unasked = record { sound = true; holders = 0; owners = 0 }
-
 -- What the ports say of line a: that every entry is sound, the ports that hold the line, the ports that own it.
 unfoldable pub masksOf : Shape → Model → ℕ → Masks
 masksOf s t a = record { sound = columnSound s t a; holders = portsFrom (holds s t a) 0 (s .ports); owners = portsFrom (owns s t a) 0 (s .ports) }
+
+-- The line, what the ports say of it, and refusal 8 where an entry at its index is unsound.
+unfoldable pub lookOf : Shape → Model → ℕ → Look
+lookOf s t a = record { line = lineOf s a; said = masksOf s t a; refusal = cond (columnSound s t a) 0 8 }

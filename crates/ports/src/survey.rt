@@ -1,18 +1,20 @@
 // One look at every port's entry for a line.
 use crate::entry;
+use crate::line;
 use crate::line::Line;
 use model::shape::Place;
+use model::shape::Shape;
 use protocol::state;
 use words::choose;
 ghost use mathlib.Core.Path.{_≡_};
-ghost use mathlib.Core.Bool.{cond};
+ghost use mathlib.Core.Bool.{true};
 ghost use Prim.Native.Nat.{_<_};
 ghost use lib.ListN.{getD};
 ghost use Rattle.endian.specs.Little.{numbers};
-ghost use Rattle.model.specs.Shape.{entries};
+ghost use Rattle.model.specs.Shape.{inRange, entries};
 ghost use Rattle.ports.specs.Bytes.{tablesIn, Filled};
 ghost use Rattle.ports.specs.Line.{Placed};
-ghost use Rattle.ports.specs.Masks.{lookLanes, unasked, masksOf};
+ghost use Rattle.ports.specs.Masks.{lookLanes, masksOf, lookOf};
 
 // What the ports say of a line: that every entry is sound, the ports that hold the line, and those that own it. Bit p is port p's.
 pub struct Masks {
@@ -72,19 +74,25 @@ fn survey_ports(tags: &[u8], states: &[u8], words: &[u8], line: Line) -> Masks
     }
 }
 
-// Asks the ports if somebody wants to know.
-pub fn survey_if(tags: &[u8], states: &[u8], words: &[u8], line: Line, on: bool) -> Masks
-    requires { ⌜ Filled (line .shape) (now tags) (now states) (now words) ⌝ }
-    requires { ⌜ Placed line ⌝ }
-    ensures { λ r. ⌜ r ≡ cond on (masksOf (line .shape) (tablesIn (line .shape) (now (tags .entry)) (now (states .entry)) (now (words .entry)))
-        (line .number)) unasked ⌝ }
+// A line, what the ports say of it, and the refusal of an order that looks at their entries: 8 where one of them is unsound, else 0.
+pub struct Look {
+    pub line: Line,
+    pub said: Masks,
+    pub refusal: u64,
+}
+
+// Looks at line a of a shape.
+pub fn look_at(shape: Shape, tags: &[u8], states: &[u8], words: &[u8], a: usize) -> Look
+    requires { ⌜ Filled shape (now tags) (now states) (now words) ⌝ }
+    requires { ⌜ (inRange shape ≡ true) × (a < shape .lines) ⌝ }
+    ensures { λ r. ⌜ r ≡ lookOf shape (tablesIn shape (now (tags .entry)) (now (states .entry)) (now (words .entry))) a ⌝ }
 {
-    if on {
-        return survey_ports(tags, states, words, line);
-    }
-    Masks {
-        sound: true,
-        holders: 0,
-        owners: 0,
+    let line = line::line_of(shape, a);
+    let said = survey_ports(tags, states, words, line);
+    let refusal = choose::choose_word(said.sound, 0, 8);
+    Look {
+        line,
+        said,
+        refusal,
     }
 }

@@ -10,7 +10,7 @@ ghost use Rattle.protocol.specs.State.{code, stateOf, orInvalid, isState
 ghost use Rattle.protocol.specs.Rules.{rule, snooped, updates};
 ghost use Rattle.protocol.specs.Coded.{busAt, coded, nibbleAt, outcomeNumber, modeNumber, ownRowAt, snoopRow};
 
-// What the port says to the other holders: nothing; become S in a mode; that, and take the new word; become I; become write-back S,
+// What a port says to the other holders, or a device to all: nothing; become S in a mode; that, and take the new word; become I; become write-back S,
 // but an owner stays the owner, as O.
 pub enum Bus {
     Quiet,

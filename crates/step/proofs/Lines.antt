@@ -1,63 +1,55 @@
--- A call on a line: the line as `line_of` gives it, refusal 8, and what else comes of the call. Assumes nothing.
+-- A call that looks at its line: refusal 8, and what else comes of it. Assumes nothing.
 use Prim.Native.Nat.{ℕ, _<_}
-use mathlib.Core.Path.{_≡_, refl, sym, subst, ap, _∙_}
-use mathlib.Core.Bool.{Bool, true, false, cond, _&&_, not}
-use mathlib.Core.List.{List}
-use borrow.Author.Tests.{not-false}
+use mathlib.Core.Path.{_≡_, refl, ap, _∙_}
+use mathlib.Core.Bool.{Bool, true, false, cond, not}
+use native.Mathlib.Omega.{arith}
 use Rattle.model.specs.declared.shape.Shape.{Shape}
 use Rattle.model.specs.declared.order.Call.{Call}
 use Rattle.model.specs.declared.order.Decoded.the-variants.{Asked}
 use Rattle.model.specs.declared.answer.Answer.{Answer}
-use Rattle.model.specs.Shape.{inRange}
-use Rattle.model.specs.Order.{lineIn, looks, There}
-use Rattle.model.specs.Tables.{columnSound}
+use Rattle.model.specs.Order.{looks}
+use Rattle.model.specs.Tables.{sound, columnSound}
 use Rattle.model.specs.Step.{result, refused, called, perform}
-use Rattle.model.proofs.Decoded.{line-there}
-use Rattle.ports.specs.declared.line.Line.{Line}
-use Rattle.ports.specs.declared.survey.Masks.{Masks}
-use Rattle.ports.specs.Bytes.{Bytes, modelIn, tablesIn, Filled, Fitting}
+use Rattle.ports.specs.declared.survey.Look.{Look}
+use Rattle.ports.specs.Bytes.{Bytes, modelIn, tablesIn, Fitting}
 use Rattle.ports.specs.Line.{lineOf, Placed}
-use Rattle.ports.specs.Masks.{unasked, masksOf}
+use Rattle.ports.specs.Masks.{masksOf, lookOf}
 use Rattle.ports.proofs.Places.{placed}
-use Rattle.ports.proofs.Surveys.{masks-column}
 
-module _ (s : Shape) (c : Call) {n : ℕ} (en : n ≡ lineIn c) (b : Bytes) (fits : Fitting s b) (there : There s c) where
-  below : n < s .lines
-  below = rw en (line-there s c there)
+-- A refusal of 8 or none.
+none-is : (b : Bool) {n : ℕ} → n ≡ cond b 0 8 → n ≡ 0 → b ≡ true
+none-is true e z = refl
+none-is false e z = absurd (omega arith)
 
-  pub line-ready : (inRange s ≡ true) × (n < s .lines)
-  line-ready = (fits .range, below)
+eight-is : (b : Bool) {n : ℕ} → n ≡ cond b 0 8 → (n ≡ 0 → ⊥) → (b ≡ false) × (n ≡ 8)
+eight-is true e z = absurd (z e)
+eight-is false e z = (refl, e)
 
-  module _ {l : Line} (e : l ≡ lineOf s n) where
-    pub survey-ready : Filled (l .shape) (b .tags) (b .states) (b .words) × Placed l
-    unfolding lineOf
-    survey-ready = (rw e (fits .filled), placed s n (fits .range) below e)
+module _ (s : Shape) (a : ℕ) (b : Bytes) (fits : Fitting s b) (there : a < s .lines) {k : Look}
+    (e : k ≡ lookOf s (tablesIn s (b .tags) (b .states) (b .words)) a) where
+  refusal-is : k .refusal ≡ cond (columnSound s (modelIn s b) a) 0 8
+  unfolding lookOf columnSound sound tablesIn modelIn
+  refusal-is = ap (λ (k : Look). k .refusal) e
 
-    module _ {k : Bool} (ek : k ≡ looks c) {x : Masks}
-        (said : x ≡ cond k (masksOf (l .shape) (tablesIn (l .shape) (b .tags) (b .states) (b .words)) (l .number)) unasked) where
-      -- Refusal 8 is what the masks say.
-      refuses : not (x .sound) ≡ (looks c && not (columnSound s (modelIn s b) (lineIn c)))
-      unfolding lineOf
-      refuses = by-look (looks c) (said ∙ rw ek)
-        where
-          by-look : (k : Bool) → x ≡ cond k (masksOf (l .shape) (tablesIn (l .shape) (b .tags) (b .states) (b .words)) (l .number)) unasked
-              → not (x .sound) ≡ (k && not (columnSound s (modelIn s b) (lineIn c)))
-          by-look true f = ap not (subst (λ (l : Line). x .sound ≡ columnSound (l .shape) (modelIn (l .shape) b) (l .number)) e
-              (masks-column (l .shape) b (l .number) f)) ∙ rw en
-          by-look false f = rw f refl
+  -- No refusal: what an order on the line asks, by a device or by a port.
+  pub device-ready : k .refusal ≡ 0 → Fitting (k .line .shape) b × (Placed (k .line)
+      × ((k .said ≡ masksOf (k .line .shape) (tablesIn (k .line .shape) (b .tags) (b .states) (b .words)) (k .line .number)) × (k .said .sound ≡ true)))
+  unfolding lookOf masksOf lineOf columnSound sound tablesIn modelIn
+  device-ready z = (rw e fits, (rw e (placed s a (fits .range) there refl), (rw e refl, rw e (none-is (columnSound s (modelIn s b) a) refusal-is z))))
 
-      pub unsound-refused : {r : Answer} → r ≡ refused 8 → not (x .sound) ≡ true → result r (modelIn s b) ≡ perform s (modelIn s b) (Asked c)
-      unfolding perform
-      unsound-refused er h = rw (er, ← refuses, h)
+  pub port-ready : k .refusal ≡ 0 → {i : ℕ} → i < s .ports → Fitting (k .line .shape) b × (Placed (k .line) × ((i < k .line .shape .ports)
+      × ((k .said ≡ masksOf (k .line .shape) (tablesIn (k .line .shape) (b .tags) (b .states) (b .words)) (k .line .number)) × (k .said .sound ≡ true))))
+  unfolding lookOf lineOf
+  port-ready z p = let d = device-ready z in (d .0, (d .1 .0, (rw e p, d .1 .1)))
 
-      -- No entry that the call looks at is unsound.
-      module _ (h : not (x .sound) ≡ false) where
-        pub call-ready : Fitting (l .shape) b × (Placed l × ((There (l .shape) c × (lineIn c ≡ l .number))
-            × ((x ≡ cond (looks c) (masksOf (l .shape) (tablesIn (l .shape) (b .tags) (b .states) (b .words)) (l .number)) unasked) × (x .sound ≡ true))))
-        unfolding lineOf
-        call-ready = (rw e fits, (survey-ready .1, ((rw e there, rw e (sym en)), (said ∙ rw ek, not-false (x .sound) h))))
+  -- A call that looks at entries: refusal 8, or what the call does.
+  module _ (c : Call) (look : looks c ≡ true) where
+    pub call-refused : (k .refusal ≡ 0 → ⊥) → {r : Answer} → r ≡ refused (k .refusal) → result r (modelIn s b) ≡ perform s (modelIn s b) (Asked c a)
+    unfolding perform
+    call-refused z er = let n = eight-is (columnSound s (modelIn s b) a) refusal-is z in rw (er, look, n .0, n .1)
 
-        pub call-done : {r : Answer} (b′ : Bytes) → result r (modelIn (l .shape) b′) ≡ called (l .shape) (modelIn (l .shape) b) c
-            → result r (modelIn s b′) ≡ perform s (modelIn s b) (Asked c)
-        unfolding perform lineOf
-        call-done {r} b′ p = rw (← refuses, h) (subst (λ (l : Line). result r (modelIn (l .shape) b′) ≡ called (l .shape) (modelIn (l .shape) b) c) e p)
+    pub call-done : k .refusal ≡ 0 → {r : Answer} (b′ : Bytes)
+        → result r (modelIn (k .line .shape) b′) ≡ called (k .line .shape) (modelIn (k .line .shape) b) c (k .line .number)
+        → result r (modelIn s b′) ≡ perform s (modelIn s b) (Asked c a)
+    unfolding perform lookOf lineOf
+    call-done z b′ p = rw (look, none-is (columnSound s (modelIn s b) a) refusal-is z) (rw e at p)

@@ -19,10 +19,10 @@ module _ (s : Shape) (o : Order) (t : Model) where
   unfolding step perform
   step-refused h e f g i = rw (i, g, f, eq-eqb (lentRefusal s t) 0 h, ← e, f)
 
-  pub step-asked : lentRefusal s t ≡ 0 → {d : Decoded} {c : Call} → d ≡ decode s o → d ≡ Asked c → {x : Result}
-      → x ≡ perform s t (Asked c) → x ≡ step s o t
+  pub step-asked : lentRefusal s t ≡ 0 → {d : Decoded} {c : Call} {a : ℕ} → d ≡ decode s o → d ≡ Asked c a → {x : Result}
+      → x ≡ perform s t (Asked c a) → x ≡ step s o t
   unfolding step
   step-asked h e f g = g ∙ rw (eq-eqb (lentRefusal s t) 0 h, ← e, f)
 
-pub asked-there : (s : Shape) (o : Order) {d : Decoded} {c : Call} → d ≡ decode s o → d ≡ Asked c → There s c
+pub asked-there : (s : Shape) (o : Order) {d : Decoded} {c : Call} {a : ℕ} → d ≡ decode s o → d ≡ Asked c a → There s c a
 asked-there s o e f = rw (← e, f) at (decode-sound s o)
