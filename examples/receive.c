@@ -1,4 +1,4 @@
-/* A driver that receives: a disk fills a buffer that a port's cache holds dirty. What is to be done before the port reads it? */
+/* A driver that receives: a disk fills a buffer, half of it dirty in a cache. What is to be done before a port reads it? */
 
 #include "moesi.h"
 

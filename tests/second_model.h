@@ -93,7 +93,7 @@ void second_fresh(struct second_model *model);
 struct second_answer second_step(struct second_model *model, uint64_t word, uint64_t operand);
 int second_audit(const struct second_model *model);
 
-/* How many ports hold the line, at an index whose entries are sound. */
+/* How many ports hold the line. */
 unsigned second_holders(const struct second_model *model, unsigned line);
 
 /* Little-endian bytes of the slices and the answer, decoded and encoded. */
