@@ -98,14 +98,14 @@
  * A device write puts the operand's bytes, where the mask has a 1, into the line's
  * word as the ports have it: the owner's, or memory's where no port owns the line.
  * The whole word is then in main memory, and no port has a copy. For the same
- * models this is proved: after it a read by any port, in either mode, and a device
- * read give the device's bytes, and beside them what was last written there. So a
- * driver needs no flush and no invalidate, neither before a device fills a buffer
- * nor after it, whatever the ports hold of the buffer; also where the device fills
- * a line in part, for what a port wrote beside its bytes is not lost. A device read
- * of the line is then right until the next write, or swap that succeeds, in write
- * back. All this is said of the model's device, which the caches hear when it
- * writes, and not when it reads.
+ * models this is proved: until the line is next written (by a write or by a swap
+ * that succeeds, in either mode, or by a device), every read of it by a port, in
+ * either mode, and every device read give the device's bytes, and beside them what
+ * was last written there, whatever orders come between. So a driver needs no flush
+ * and no invalidate, neither before a device fills a buffer nor after it, whatever
+ * the ports hold of the buffer; also where the device fills a line in part, for
+ * what a port wrote beside its bytes is not lost. All this is said of the model's
+ * device, which the caches hear when it writes, and not when it reads.
  */
 
 #ifndef MOESI_H

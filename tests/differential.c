@@ -673,7 +673,25 @@ static int reads_bytes(struct tester *tester, uint64_t read, uint64_t bytes, uns
     return 0;
 }
 
-/* A device writes a line. Then the device reads what it wrote, and so does every port, in any mode. */
+/* Adds some random orders, but none that may write the line. */
+static int add_orders_beside(struct tester *tester, unsigned line)
+{
+    for (unsigned k = generator_below(&tester->generator, 4); k > 0; k--) {
+        uint64_t word = traffic_order(&tester->traffic, &tester->generator, &tester->pair.second);
+        uint64_t operand = traffic_operand(&tester->traffic, &tester->generator);
+        unsigned kind = word & 7;
+        int may_write = kind == SECOND_WRITE || kind == SECOND_SWAP || kind == SECOND_DEVICE_WRITE;
+
+        if (may_write && (word >> 16 & 65535) == line)
+            continue;
+        if (!history_add(&tester->history, &tester->pair, word, operand))
+            return report_history(tester);
+    }
+    return 1;
+}
+
+/* A device writes a line. Until the line is next written the device reads what it wrote, and so does every port, in any
+   mode, whatever orders come between. */
 static int fill_line(struct tester *tester)
 {
     struct generator *generator = &tester->generator;
@@ -690,10 +708,11 @@ static int fill_line(struct tester *tester)
     for (unsigned port = 0; port < tester->traffic.shape.ports; port++) {
         uint64_t mode = generator_below(generator, 2);
 
-        if (!reads_bytes(tester, traffic_word(SECOND_READ, mode, port, 0, line, 0), bytes, mask))
+        if (!add_orders_beside(tester, line) ||
+            !reads_bytes(tester, traffic_word(SECOND_READ, mode, port, 0, line, 0), bytes, mask))
             return 0;
     }
-    return reads_bytes(tester, device_read, bytes, mask);
+    return add_orders_beside(tester, line) && reads_bytes(tester, device_read, bytes, mask);
 }
 
 static int device_fills(struct tester *tester, uint64_t run)

@@ -17,7 +17,7 @@ use Rattle.protocol.specs.declared.rules.Rule.{Rule}
 use Rattle.words.specs.Word.{merge}
 use Rattle.words.specs.Access.{effectAt}
 use Rattle.protocol.specs.Rules.{flushRule}
-use Rattle.words.proofs.Bools.{Is, by-bool}
+use Rattle.words.proofs.Bools.{Is, and-none, by-bool}
 use Rattle.words.proofs.Effects.{write-effect, unwritten}
 use Rattle.protocol.proofs.Kept.{flush-own, flush-bus, flush-stores, quiet-same, quiet-keeps}
 use Rattle.model.specs.declared.shape.Shape.{Shape}
@@ -217,10 +217,6 @@ module _ (s : Shape) (t : Model) (f : Flat) (sim : Sim s t f) where
   called-goes (Flush i) a h = flush-goes s t f sim a (h .1) i (h .0)
   called-goes DeviceRead a h = device-read-goes s t f sim a (h .1)
   called-goes (DeviceWrite mask x) a h = device-write-goes s t f sim a (h .1) mask x
-
-  and-none : (b : Bool) → (b && false) ≡ false
-  and-none true = refl
-  and-none false = refl
 
   -- An order, whatever it is taken apart into.
   perform-goes : (d : Decoded) → Sound s d → Goes s (perform s t d) (flatPerform f d)

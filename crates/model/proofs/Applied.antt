@@ -91,7 +91,7 @@ module _ (s : Shape) (t : Model) (i a : ℕ) (ready : Ready s t a) (port : i < s
   -- An entry that is taken is evicted exactly if it is an owner's.
   evicts-miss : Is (evictsOwner s t i a) → Is (not (holds s t a i))
   unfolding evictsOwner
-  evicts-miss ev = search (and-l, and-r)
+  evicts-miss ev = search and-l
 
   evicts-owner : Is (evictsOwner s t i a) → Is (owner (stateAt t (entryOf s a i)))
   unfolding evictsOwner

@@ -1,14 +1,24 @@
 -- What a device reads, and what is read after it wrote: the agreement and the mark's reading, joined. Assumes nothing.
 use Prim.Native.Nat.{ℕ, zero, suc, _<_}
-use mathlib.Core.Path.{_≡_, refl, ap, _∙_}
-use mathlib.Core.Bool.{true, false, not, false≢true}
+use mathlib.Core.Path.{_≡_, refl, sym, ap, _∙_}
+use mathlib.Core.Logic.{_≢_}
+use mathlib.Core.Bool.{true, false, _||_, not, false≢true}
 use mathlib.Core.List.{List, [], _∷_}
 use native.Mathlib.Omega.{arith}
+use native.Mathlib.Decide.{ℕ-discrete}
 use lib.ListN.{getD, length, replicate}
-use borrow.Author.Tests.{eqb-true}
+use lib.Dec.{eqb}
+use borrow.Author.Tests.{eq-eqb, eqb-true, not-true}
+use Rattle.protocol.specs.declared.state.Mode.{Mode}
+use Rattle.protocol.specs.declared.state.Mode.the-variants.{Through}
+use Rattle.words.specs.declared.access.Access.{Access}
 use Rattle.words.specs.declared.access.Access.the-variants.{Read, Write, Swap}
+use Rattle.words.specs.declared.access.Effect.{Effect}
+use Rattle.protocol.specs.State.{isBack}
 use Rattle.words.specs.Word.{merge}
-use Rattle.words.proofs.Effects.{write-effect}
+use Rattle.words.specs.Access.{effectAt, writes, isWrite}
+use Rattle.words.proofs.Bools.{Is, and-l, and-r, and-none}
+use Rattle.words.proofs.Effects.{write-effect, unwritten}
 use Rattle.model.specs.declared.shape.Shape.{Shape}
 use Rattle.model.specs.declared.order.Call.the-variants.{ByPort, Flush, DeviceRead, DeviceWrite}
 use Rattle.model.specs.declared.order.Decoded.{Decoded}
@@ -17,14 +27,14 @@ use Rattle.model.specs.Order.{Order, decode}
 use Rattle.model.specs.Tables.{Model, lentRefusal, memoryAt}
 use Rattle.model.specs.Step.{called, perform, step}
 use Rattle.model.specs.Fresh.{fresh}
-use Rattle.model.specs.Flat.{Flat, wordIn, markIn, flatAccess, flatPerform, flatStep, flatStart}
-use Rattle.model.specs.Marks.{Event, neither, SetSince, eventsOf, flatRun, modelRun, isReadOf, DeviceWriteSeen, DeviceGuarantee}
+use Rattle.model.specs.Flat.{Flat, FlatResult, wordIn, markIn, flatAccess, flatPerform, flatStep, flatStart}
+use Rattle.model.specs.Marks.{Event, neither, SetSince, eventsOf, flatRun, modelRun, isReadOf, isWriteOf, leftAlone, DeviceWriteSeen, DeviceGuarantee}
 use Rattle.model.proofs.Lent.{facts-lent}
 use Rattle.model.proofs.Decoded.{decode-sound}
-use Rattle.model.proofs.Moved.{written-moves}
+use Rattle.model.proofs.Moved.{Moved, access-moves, written-moves}
 use Rattle.model.proofs.Agree.{Sim, step-goes}
 use Rattle.model.proofs.Theorem.{fresh-sim}
-use Rattle.model.proofs.Marks.{mark-says, neither≢sets}
+use Rattle.model.proofs.Marks.{swapped-writes, mark-says, neither≢sets}
 
 -- Tables that go with a flat memory do so after any list of orders.
 run-sim : (s : Shape) (os : List Order) (t : Model) (f : Flat) → Sim s t f → Sim s (modelRun s os t) (flatRun s os f)
@@ -82,13 +92,57 @@ written-flat f a mask x e lw lm =
     let moves = written-moves f a mask x in
     rw e (moves .word lw ∙ rw (write-effect mask x (wordIn f a)), moves .mark lm)
 
+-- An order that does not write line a leaves its flat word, and its mark where that is 0. The flat memory moves at the order's line b.
+other-kept : (f : Flat) (a b : ℕ) (e : Effect) (m : Mode) (r : FlatResult) → Moved f r e m b → a ≢ b → markIn f a ≡ false
+    → (wordIn (r .after) a ≡ wordIn f a) × (markIn (r .after) a ≡ false)
+other-kept f a b e m r moves d u = (moves .word-other a d, moves .mark-other a d ∙ u)
+
+read-kept : (f : Flat) (a : ℕ) (acc : Access) (m : Mode) → a < length (f .words) → a < length (f .marks) → markIn f a ≡ false
+    → Is (not (isWrite acc || eqb (flatAccess f acc m a .answer .swapped) 1))
+    → (wordIn (flatAccess f acc m a .after) a ≡ wordIn f a) × (markIn (flatAccess f acc m a .after) a ≡ false)
+read-kept f a acc m lw lm u h =
+    let moves = access-moves f m a acc in
+    let e = effectAt acc (wordIn f a) in
+    let kept : Is (not (writes (e .outcome))) = ap not (swapped-writes acc (wordIn f a)) ∙ rw (moves .answer) at h in
+    (moves .word lw ∙ unwritten acc (wordIn f a) kept, moves .mark lm ∙ rw (not-true (writes (e .outcome)) kept, u) (and-none (isBack m)))
+
+kept : (f : Flat) (a : ℕ) (d : Decoded) → a < length (f .words) → a < length (f .marks) → markIn f a ≡ false
+    → Is (not (isWriteOf a d (flatPerform f d .answer .swapped)))
+    → (wordIn (flatPerform f d .after) a ≡ wordIn f a) × (markIn (flatPerform f d .after) a ≡ false)
+unfolding flatPerform isWriteOf
+kept f a (Refused k) lw lm u h = (refl, u)
+kept f a (Asked (Flush i) b) lw lm u h = (refl, u)
+kept f a (Asked DeviceRead b) lw lm u h = (refl, u)
+kept f a (Asked (ByPort acc m i) b) lw lm u h =
+    elim (ℕ-discrete b a) [
+      | yes e ↦ rw e (read-kept f a acc m lw lm u (rw (e, eq-eqb a a refl) at h))
+      | no d ↦ other-kept f a b _ m _ (access-moves f m b acc) (λ e. d (sym e)) u
+    ]
+kept f a (Asked (DeviceWrite mask x) b) lw lm u h =
+    other-kept f a b _ Through _ (written-moves f b mask x) (λ e. false≢true (rw (e, eq-eqb b b refl) at h)) u
+
+-- Orders that leave line a alone leave its flat word, and its mark of 0.
+alone-kept : (s : Shape) (a : ℕ) (os : List Order) (t : Model) (f : Flat) → Sim s t f → a < s .lines → markIn f a ≡ false → Is (leftAlone s a os f)
+    → (wordIn (flatRun s os f) a ≡ wordIn f a) × (markIn (flatRun s os f) a ≡ false)
+unfolding flatRun leftAlone flatStep
+alone-kept s a [] t f sim there u h = (refl, u)
+alone-kept s a (o ∷ os) t f sim there u h =
+    let now = flatPerform f (decode s o) in
+    let is-none = not (isWriteOf a (decode s o) (now .answer .swapped)) in
+    let others = leftAlone s a os (now .after) in
+    let first = kept f a (decode s o) (rw (sim .flat-words) there) (rw (sim .flat-marks) there) u (and-l is-none others h) in
+    let rest = alone-kept s a os (step s o t .after) (now .after) (step-goes s t f sim o .sim) there (first .1) (and-r is-none others h) in
+    (rest .0 ∙ first .0, rest .1)
+
 pub device-write-seen : DeviceWriteSeen
 unfolding flatStep
-device-write-seen s t accepted os mask x a o asks n reads =
+device-write-seen s t accepted os mask x a o asks later alone n reads =
     let f = flatRun s os (flatStart (t .memory)) in
     let sim = run-sim s os (fresh s t) (flatStart (t .memory)) (fresh-sim s t accepted) in
     let there : a < s .lines = (rw asks at (decode-sound s o)) .1 in
     let flat = written-flat f a mask x asks (rw (sim .flat-words) there) (rw (sim .flat-marks) there) in
-    let read = read-value (flatStep s o f .after) a (decode s n) reads (flat .1) in
-    let agrees = step-goes s _ (flatStep s o f .after) (step-goes s _ f sim o .sim) n .agrees in
-    (agrees .refusal ∙ read .0, agrees .value (read .1 .0) ∙ read .1 .1 ∙ flat .0)
+    let written = step-goes s _ f sim o .sim in
+    let stays = alone-kept s a later _ (flatStep s o f .after) written there (flat .1) alone in
+    let read = read-value (flatRun s later (flatStep s o f .after)) a (decode s n) reads (stays .1) in
+    let agrees = step-goes s _ _ (run-sim s later _ (flatStep s o f .after) written) n .agrees in
+    (agrees .refusal ∙ read .0, agrees .value (read .1 .0) ∙ read .1 .1 ∙ stays .0 ∙ flat .0)

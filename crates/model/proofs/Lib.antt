@@ -16,4 +16,5 @@ pub mod Theorem
 pub mod Marks
 pub mod Device
 pub mod Claims
+pub mod Computing
 pub mod Examples

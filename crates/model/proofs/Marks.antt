@@ -38,8 +38,8 @@ fold : Bool → List Event → Bool
 fold old [] = old
 fold old (e ∷ es) = fold (moved e old) es
 
--- An access moves the mark by its event: in write through it clears it, and in write back it sets it if it writes.
-swapped-writes : (acc : Access) (w : ℕ) → writes (effectAt acc w .outcome) ≡ (isWrite acc || eqb (bit (effectAt acc w .swapped)) 1)
+-- An access writes the word if it is a write, or a swap whose swapped number is 1.
+pub swapped-writes : (acc : Access) (w : ℕ) → writes (effectAt acc w .outcome) ≡ (isWrite acc || eqb (bit (effectAt acc w .swapped)) 1)
 swapped-writes Read w = rw (read-effect w)
 swapped-writes (Write mask x) w = rw (write-effect mask x w)
 swapped-writes (Swap mask x compare) w =
@@ -49,6 +49,7 @@ set-or : (b old : Bool) → (b || old) ≡ moved (cond b sets neither) old
 set-or true old = refl
 set-or false old = refl
 
+-- An access moves the mark by its event: in write through it clears it, and in write back it sets it if it writes.
 access-event : (f : Flat) (acc : Access) (m : Mode) (i a : ℕ) (r : FlatResult) → Moved f r (effectAt acc (wordIn f a)) m a → a < length (f .marks)
     → markIn (r .after) a ≡ moved (eventOf a (Asked (ByPort acc m i) a) (r .answer .swapped)) (markIn f a)
 unfolding eventOf

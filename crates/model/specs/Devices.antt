@@ -1,12 +1,13 @@
 -- Device writes, as tables in the form of the fourteen orders. (Document 02's first request has no example.)
 -- The proof is `devices-hold` in proofs/Examples.antt.
 use Prim.Native.Nat.{ℕ}
+use mathlib.Core.Path.{_≡_}
 use mathlib.Core.List.{List, [], _∷_}
 use Rattle.protocol.specs.declared.state.Mode.the-variants.{Through, Back}
 use Rattle.model.specs.Order.{Order}
 use Rattle.model.specs.Tables.{Model, model}
 use Rattle.model.specs.Step.{step}
-use Rattle.model.specs.Fourteen.{order, read, write, answer, Row, row, twoPorts, start, played, Gives}
+use Rattle.model.specs.Fourteen.{order, read, write, answer, Row, row, twoPorts, start, played}
 
 -- A device write. The word's other fields are ignored: here they are all ones.
 abbrev deviceWrite : ℕ → ℕ → ℕ → Order
@@ -53,6 +54,7 @@ noneWritten = row (deviceWrite 0 0xFF 1) (answer 8 0 0 0 0) 12 0 5 7 ∷ []
 
 abbrev pub DevicesHold : Type 0
 DevicesHold =
-    Gives (played written start) written
-    × Gives (played ownersWritten twoOwners) ownersWritten × Gives (step twoPorts (deviceWrite 1 0x02 0xAB00) twoOwners .after) ownersLeft
-    × Gives (played noneWritten noState) noneWritten
+    (played written start ≡ written)
+    × (played ownersWritten twoOwners ≡ ownersWritten)
+    × (step twoPorts (deviceWrite 1 0x02 0xAB00) twoOwners .after ≡ ownersLeft)
+    × (played noneWritten noState ≡ noneWritten)

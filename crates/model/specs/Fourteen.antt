@@ -85,9 +85,5 @@ played (r ∷ rs) t =
     let a = bits (r .order .word) 16 16 in
     row (r .order) (x .answer) (code (seen twoPorts u a 0)) (code (seen twoPorts u a 1)) (memoryAt u 0) (memoryAt u 1) ∷ played rs u
 
--- What the step gives, and what is written down for it.
-abbrev pub Gives : {A : Type 0} → A → A → Type 0
-Gives x y = x ≡ y
-
 abbrev pub FourteenHold : Type 0
-FourteenHold = Gives (played table start) table
+FourteenHold = played table start ≡ table

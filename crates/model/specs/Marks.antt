@@ -3,7 +3,7 @@
 use Prim.Native.Nat.{ℕ, _<_}
 use mathlib.Core.Path.{_≡_}
 use mathlib.Core.Logic.{_≢_, _↔_}
-use mathlib.Core.Bool.{Bool, true, false, cond, _&&_, _||_}
+use mathlib.Core.Bool.{Bool, true, false, cond, _&&_, _||_, not}
 use mathlib.Core.List.{List, [], _∷_}
 use lib.ListN.{getD, length}
 use lib.Dec.{eqb}
@@ -74,14 +74,28 @@ isReadOf a (Asked (Flush i) b) = false
 isReadOf a (Asked DeviceRead b) = eqb b a
 isReadOf a (Asked (DeviceWrite mask x) b) = false
 
--- What a device wrote is seen at once, without a flush: after any list of orders from a fresh model, whatever the caches then hold, and a
--- device write of a line, a read of it by any port, in either mode, and a device read of it are accepted and answer the line's flat word with
--- the operand merged under the mask.
+-- An order whose swapped number is n writes line a: an accepted write or successful swap of it by a port, or an accepted device write of it.
+unfoldable pub isWriteOf : ℕ → Decoded → ℕ → Bool
+isWriteOf a (Refused k) n = false
+isWriteOf a (Asked (ByPort acc m i) b) n = eqb b a && (isWrite acc || eqb n 1)
+isWriteOf a (Asked (Flush i) b) n = false
+isWriteOf a (Asked DeviceRead b) n = false
+isWriteOf a (Asked (DeviceWrite mask x) b) n = eqb b a
+
+-- No order of a list writes it, from a flat memory on.
+unfoldable pub leftAlone : Shape → ℕ → List Order → Flat → Bool
+leftAlone s a [] f = true
+leftAlone s a (o ∷ os) f = not (isWriteOf a (decode s o) (flatStep s o f .answer .swapped)) && leftAlone s a os (flatStep s o f .after)
+
+-- What a device wrote is seen, without a flush: after any list of orders from a fresh model, whatever the caches then hold, a device write of
+-- a line, and any orders that do not write that line, a read of it by any port, in either mode, and a device read of it are accepted and answer
+-- the flat word that the line had before the device write, with the operand merged under the mask.
 abbrev pub DeviceWriteSeen : Type 0
 DeviceWriteSeen =
     (s : Shape) (t : Model) → lentRefusal s t ≡ 0 → (os : List Order) (mask x a : ℕ) (o : Order) → decode s o ≡ Asked (DeviceWrite mask x) a
+    → (later : List Order) → leftAlone s a later (flatStep s o (flatRun s os (flatStart (t .memory))) .after) ≡ true
     → (n : Order) → isReadOf a (decode s n) ≡ true
-    → let read = step s n (step s o (modelRun s os (fresh s t)) .after) .answer in
+    → let read = step s n (modelRun s later (step s o (modelRun s os (fresh s t)) .after)) .answer in
     (read .refusal ≡ 0) × (read .value ≡ merge mask (wordIn (flatRun s os (flatStart (t .memory))) a) x)
 
 -- The device guarantee in one sentence: after any list of orders from a fresh model, a device read of a line answers its flat word, if

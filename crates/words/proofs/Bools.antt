@@ -15,6 +15,10 @@ pub and-r : (a b : Bool) → Is (a && b) → Is b
 and-r true b h = h
 and-r false b h = absurd (false≢true h)
 
+pub and-none : (b : Bool) → (b && false) ≡ false
+and-none true = refl
+and-none false = refl
+
 pub both : {a b : Bool} → Is a → Is b → Is (a && b)
 both {a = true} h k = k
 both {a = false} h k = h

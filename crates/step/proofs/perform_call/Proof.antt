@@ -1,4 +1,4 @@
--- The call, by its access-case: where it looks at its line, refusal 8, or the order. Assumes nothing.
+-- The call, by its case: where it looks at its line, refusal 8, or the order. Assumes nothing.
 use borrow.Author.Needs.{needs}
 use mathlib.Core.Path.{refl, subst}
 use Rattle.model.specs.declared.order.Call.the-variants.{ByPort, Flush, DeviceWrite}
@@ -57,13 +57,6 @@ returns-2 c =
     rw (flush-case look .call2 .given .1)
     (call-refused _ _ (lent s) (s .pre .0) (s .pre .1 .1) (look .look-at2 .ensures) (Flush _) refl (bad .if2 .taken) (c .refuse2 .ensures))
 
-flush-line-requires : tie.Need-flush-line-requires
-flush-line-requires c κs =
-    let good : tie.Else2 = search in let look : tie.After-look-at2 = search in
-    let s = flush-start look in
-    port-ready _ _ (lent s) (s .pre .0) (s .pre .1 .1) (look .look-at2 .ensures) (good .if2 .left)
-    (subst (PortThere _) (flush-case look .call2 .given .1) (s .pre .1 .0))
-
 returns-5 : tie.Need-returns-5
 unfolding called
 returns-5 c =
@@ -71,6 +64,13 @@ returns-5 c =
     let s = flush-start look in
     rw (flush-case look .call2 .given .1)
     (call-done _ _ (lent s) (s .pre .0) (s .pre .1 .1) (look .look-at2 .ensures) (Flush _) refl (good .if2 .left) _ (done .flush-line .ensures))
+
+flush-line-requires : tie.Need-flush-line-requires
+flush-line-requires c κs =
+    let good : tie.Else2 = search in let look : tie.After-look-at2 = search in
+    let s = flush-start look in
+    port-ready _ _ (lent s) (s .pre .0) (s .pre .1 .1) (look .look-at2 .ensures) (good .if2 .left)
+    (subst (PortThere _) (flush-case look .call2 .given .1) (s .pre .1 .0))
 
 -- A device write. Seen from the look: the call's case, and the start.
 abbrev write-case : tie.After-look-at3 → tie.After-call3
