@@ -13,7 +13,7 @@
 #include <string.h>
 #include <time.h>
 
-enum { ORDERS = 4096, ALIGNMENT = 64, MOST_BYTES = 8 * SECOND_MAX_LINES };
+enum { ORDERS = 65536, ALIGNMENT = 64, MOST_BYTES = 8 * SECOND_MAX_LINES };
 
 enum subject { LIBRARY, PLAIN, WALKING, SECOND, SUBJECTS };
 
@@ -364,7 +364,7 @@ int main(int argc, char **argv)
     struct bytes all[BYTE_MODELS + 1];
     int agree = 1;
 
-    bench.repetitions = argc > 1 ? atoi(argv[1]) : 200;
+    bench.repetitions = argc > 1 ? atoi(argv[1]) : 20;
     for (int k = 0; k <= BYTE_MODELS; k++) {
         all[k].memory = get_bytes();
         all[k].tags = get_bytes();

@@ -112,8 +112,8 @@ int main(void)
         clean += moesi_model_clean(&model, line) && step(moesi_order_device_read(line), 0).value == due;
         right += step(moesi_order_read(0, line, MOESI_WRITE_BACK), 0).value == due;
     }
-    printf("%u lines right, the last one with its own four bytes behind the disk's\n", right);
-    printf("a device would have read %u lines right\n", clean);
+    printf("%u of %d lines right (behind the disk's bytes the last one has the port's own four)\n", right, BUFFER_LINES);
+    printf("a device would have read %u of %d lines right\n", clean, BUFFER_LINES);
 
     passes = moesi_model_passes(&model);
     printf("audit: %s\n", passes ? "yes" : "no");

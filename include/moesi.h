@@ -246,10 +246,10 @@ static inline struct moesi_sizes moesi_sizes_of(uint64_t ports, uint64_t sets, u
 /*
  * Order words. Bits 0-2 kind, 3 mode, 4-7 port, 8-15 byte mask, 16-31 line,
  * 32-63 compare value. A port or a line too large for its field becomes the
- * field's largest number, which no shape has, so that the order is refused and
- * never lands on another port or line; a kind above 7 becomes 7, which is
- * refused too. Mask and compare value are cut to their fields. Any mode but 0
- * is write back.
+ * field's largest number, which no shape has, so that an order that names it is
+ * refused and never lands on another port or line; a kind above 7 becomes 7,
+ * which is refused too. Mask and compare value are cut to their fields. Any mode
+ * but 0 is write back.
  */
 
 static inline uint64_t moesi_order_word(uint64_t kind, uint64_t mode, uint64_t port, uint64_t line,
@@ -305,7 +305,8 @@ static inline uint64_t moesi_order_device_read(uint64_t line)
 
 /*
  * A device writes byte k of the operand into byte k of the line's word where mask
- * bit k is 1. The word is stored in main memory, and no port keeps a copy.
+ * bit k is 1. The word is stored in main memory, and no port keeps a copy. Value
+ * is 0; one word is stored, and one fetched where no port owns the line.
  */
 static inline uint64_t moesi_order_device_write(uint64_t line, uint8_t mask)
 {

@@ -1,5 +1,5 @@
 #!/usr/bin/env python3
-"""Wrong versions of the models, the trace program and the header's struct, which the tests have to catch, into a folder."""
+"""Wrong versions of the models, the trace program and the header, which the tests have to catch, into a folder."""
 
 import pathlib
 import sys
@@ -716,7 +716,7 @@ TRACE = [
      "    while (length == 0 || fread(rest, 1, sizeof rest, stdin) > 0)"),
 ]
 
-# The header's last part, which is C and not proved: model_test.c is compiled with each of these.
+# What the header has beside the declarations, which is C and not proved: model_test.c is compiled with each of these.
 HEADER = [
     # Where the bytes are.
     ("the room of a shape forgets the states",

@@ -1,4 +1,4 @@
--- Laws of one access or flush, that several proofs cite.
+-- Laws of one order on a line, that the proofs of functions cite.
 pub mod Applied
 pub mod Supplied
 pub mod Decisions

@@ -1,4 +1,4 @@
--- An order of a word and an operand, and the access of a kind.
+-- An order of a word and an operand, the access of a kind, and the refusal of an order taken apart.
 use Prim.Native.Nat.{ℕ}
 use mathlib.Core.Bool.{cond}
 use lib.Dec.{eqb}

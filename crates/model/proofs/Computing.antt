@@ -1,5 +1,5 @@
--- One name for all that an order computes by, from fresh tables on: under `unfolding computing` the step runs. What computes examples says
--- this name, so that a definition more in the step is named here alone. Assumes nothing.
+-- One name for all that fresh and a step compute by: a proof that says `unfolding computing` can run them. Every proof of an example does,
+-- so that a definition more in the step is listed here alone. Assumes nothing.
 use Rattle.protocol.specs.State.{code, stateOf}
 use Rattle.words.specs.Word.{merge, mergeLow}
 use Rattle.words.specs.Access.{effectAt}

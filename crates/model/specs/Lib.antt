@@ -12,4 +12,4 @@ pub mod Agreement
 pub mod Marks
 pub mod Claims
 pub mod Fourteen
-pub mod Devices
+pub mod DeviceWrites

@@ -82,7 +82,7 @@ isWriteOf a (Asked (Flush i) b) n = false
 isWriteOf a (Asked DeviceRead b) n = false
 isWriteOf a (Asked (DeviceWrite mask x) b) n = eqb b a
 
--- No order of a list writes it, from a flat memory on.
+-- No order of a list writes line a, from a flat memory on.
 unfoldable pub leftAlone : Shape → ℕ → List Order → Flat → Bool
 leftAlone s a [] f = true
 leftAlone s a (o ∷ os) f = not (isWriteOf a (decode s o) (flatStep s o f .answer .swapped)) && leftAlone s a os (flatStep s o f .after)

@@ -200,7 +200,7 @@ const DEVICE: [u64; 10] = [
     0,
 ];
 
-// Refusal 4, kinds 6 and 7; 5, port 2; 6, line 2, by a device too, whose port is not asked; 7, the masks 0 and 0xFF.
+// Refusal 4, kinds 6 and 7; 5, port 2; 6, line 2, by a device read and by a device write whose port is not there either; 7, the masks 0 and 0xFF.
 const REFUSED: [u64; 14] = [
     0x6,
     0,

@@ -1,5 +1,5 @@
 -- Device writes, as tables in the form of the fourteen orders. (Document 02's first request has no example.)
--- The proof is `devices-hold` in proofs/Examples.antt.
+-- The proof is `device-writes-hold` in proofs/Examples.antt.
 use Prim.Native.Nat.{ℕ}
 use mathlib.Core.Path.{_≡_}
 use mathlib.Core.List.{List, [], _∷_}
@@ -45,16 +45,23 @@ ownersWritten = row (deviceWrite 1 0x02 0xAB00) (answer 0 0 0 0 1) 0 0 5 0xAB11 
 unfoldable pub ownersLeft : Model
 ownersLeft = model (5 ∷ 0xAB11 ∷ []) (1 ∷ 1 ∷ []) (0 ∷ 0 ∷ []) (0x11 ∷ 0x22 ∷ [])
 
--- A byte that is no state, at port 1.
+-- Tables that refuse it: a byte that is no state, at port 1; and a home line that is not there, line 2 at port 0.
 unfoldable pub noState : Model
 noState = model (5 ∷ 7 ∷ []) (0 ∷ 0 ∷ []) (12 ∷ 3 ∷ []) (0x11 ∷ 0x22 ∷ [])
 
-unfoldable pub noneWritten : List Row
-noneWritten = row (deviceWrite 0 0xFF 1) (answer 8 0 0 0 0) 12 0 5 7 ∷ []
+unfoldable pub noStateRefused : List Row
+noStateRefused = row (deviceWrite 0 0xFF 1) (answer 8 0 0 0 0) 12 0 5 7 ∷ []
 
-abbrev pub DevicesHold : Type 0
-DevicesHold =
+unfoldable pub noHome : Model
+noHome = model (5 ∷ 7 ∷ []) (2 ∷ 0 ∷ []) (9 ∷ 10 ∷ []) (0x11 ∷ 0x22 ∷ [])
+
+unfoldable pub noHomeRefused : List Row
+noHomeRefused = row (deviceWrite 0 0xFF 1) (answer 8 0 0 0 0) 0 10 5 7 ∷ []
+
+abbrev pub DeviceWritesHold : Type 0
+DeviceWritesHold =
     (played written start ≡ written)
     × (played ownersWritten twoOwners ≡ ownersWritten)
     × (step twoPorts (deviceWrite 1 0x02 0xAB00) twoOwners .after ≡ ownersLeft)
-    × (played noneWritten noState ≡ noneWritten)
+    × (played noStateRefused noState ≡ noStateRefused)
+    × (played noHomeRefused noHome ≡ noHomeRefused)
