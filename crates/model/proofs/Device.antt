@@ -92,20 +92,22 @@ written-flat f a mask x e lw lm =
     let moves = written-moves f a mask x in
     rw e (moves .word lw ∙ rw (write-effect mask x (wordIn f a)), moves .mark lm)
 
--- An order that does not write line a leaves its flat word, and its mark where that is 0. The flat memory moves at the order's line b.
+-- What leaves line a its flat word, and its mark of 0: an order on another line b,
 other-kept : (f : Flat) (a b : ℕ) (e : Effect) (m : Mode) (r : FlatResult) → Moved f r e m b → a ≢ b → markIn f a ≡ false
     → (wordIn (r .after) a ≡ wordIn f a) × (markIn (r .after) a ≡ false)
 other-kept f a b e m r moves d u = (moves .word-other a d, moves .mark-other a d ∙ u)
 
+-- an access of the line that does not write it,
 read-kept : (f : Flat) (a : ℕ) (acc : Access) (m : Mode) → a < length (f .words) → a < length (f .marks) → markIn f a ≡ false
     → Is (not (isWrite acc || eqb (flatAccess f acc m a .answer .swapped) 1))
     → (wordIn (flatAccess f acc m a .after) a ≡ wordIn f a) × (markIn (flatAccess f acc m a .after) a ≡ false)
 read-kept f a acc m lw lm u h =
     let moves = access-moves f m a acc in
     let e = effectAt acc (wordIn f a) in
-    let kept : Is (not (writes (e .outcome))) = ap not (swapped-writes acc (wordIn f a)) ∙ rw (moves .answer) at h in
-    (moves .word lw ∙ unwritten acc (wordIn f a) kept, moves .mark lm ∙ rw (not-true (writes (e .outcome)) kept, u) (and-none (isBack m)))
+    let unwritten-by : Is (not (writes (e .outcome))) = ap not (swapped-writes acc (wordIn f a)) ∙ rw (moves .answer) at h in
+    (moves .word lw ∙ unwritten acc (wordIn f a) unwritten-by, moves .mark lm ∙ rw (not-true (writes (e .outcome)) unwritten-by, u) (and-none (isBack m)))
 
+-- and so any order that does not write the line.
 kept : (f : Flat) (a : ℕ) (d : Decoded) → a < length (f .words) → a < length (f .marks) → markIn f a ≡ false
     → Is (not (isWriteOf a d (flatPerform f d .answer .swapped)))
     → (wordIn (flatPerform f d .after) a ≡ wordIn f a) × (markIn (flatPerform f d .after) a ≡ false)
