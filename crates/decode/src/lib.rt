@@ -1,12 +1,20 @@
 // An order word taken apart, once.
 use model::order::Call;
 use model::order::Decoded;
+use model::order::KINDS;
 use model::shape::Shape;
 use protocol::state::Mode;
 use words::access::Access;
 ghost use mathlib.Core.Path.{_≡_};
-ghost use Rattle.model.specs.Order.{modeIn, checked, callOf, decode};
+ghost use Rattle.model.specs.Order.{bits, modeIn, checked, callOf, decode};
 ghost use Rattle.decode.specs.Order.{order, accessOf, refusalIn};
+
+// The kind that an order word says, bits 0-2.
+pub fn kind_of(w: u64) -> usize
+    ensures { λ r. ⌜ r ≡ bits w 0 3 ⌝ }
+{
+    (w / 1 % 8) as usize
+}
 
 fn mode_in(w: u64) -> Mode
     ensures { λ r. ⌜ r ≡ modeIn w ⌝ }
@@ -19,7 +27,7 @@ fn mode_in(w: u64) -> Mode
 }
 
 // What the kinds 0 to 2 ask: read, write, and else compare-and-swap.
-fn access_of(kind: u64, mask: u8, compare: u64, x: u64) -> Access
+fn access_of(kind: usize, mask: u8, compare: u64, x: u64) -> Access
     ensures { λ r. ⌜ r ≡ accessOf kind mask compare x ⌝ }
 {
     if kind == 0 {
@@ -31,7 +39,7 @@ fn access_of(kind: u64, mask: u8, compare: u64, x: u64) -> Access
     Access::Swap(mask, x, compare)
 }
 
-fn call_of(kind: u64, m: Mode, port: usize, mask: u8, compare: u64, x: u64) -> Call
+fn call_of(kind: usize, m: Mode, port: usize, mask: u8, compare: u64, x: u64) -> Call
     ensures { λ r. ⌜ r ≡ callOf kind m port mask compare x ⌝ }
 {
     if kind < 3 {
@@ -47,10 +55,17 @@ fn call_of(kind: u64, m: Mode, port: usize, mask: u8, compare: u64, x: u64) -> C
 }
 
 // Refusals 4 to 7, in checking order, else the call and its line.
-fn checked_call(shape: Shape, kind: u64, port: usize, mask: u8, line: usize, call: Call) -> Decoded
+fn checked_call(
+    shape: Shape,
+    kind: usize,
+    port: usize,
+    mask: u8,
+    line: usize,
+    call: Call,
+) -> Decoded
     ensures { λ r. ⌜ r ≡ checked shape kind port mask line call ⌝ }
 {
-    if 6 <= kind {
+    if KINDS <= kind {
         return Decoded::Refused(4);
     }
     if (kind < 4) & (shape.ports <= port) {
@@ -69,7 +84,7 @@ fn checked_call(shape: Shape, kind: u64, port: usize, mask: u8, line: usize, cal
 pub fn decode_order(shape: Shape, w: u64, x: u64) -> Decoded
     ensures { λ r. ⌜ r ≡ decode shape (order w x) ⌝ }
 {
-    let kind = w / 1 % 8;
+    let kind = kind_of(w);
     let port = (w / 16 % 16) as usize;
     let mask = (w / 256 % 256) as u8;
     let line = (w / 65536 % 65536) as usize;

@@ -1,32 +1,35 @@
 -- What holds on every input: a step makes few memory accesses, a refusal changes nothing, the audit says its plain facts, and finding's
 -- answer has its number. Assumes nothing.
-use Prim.Native.Nat.{ℕ, _≤_}
+use Prim.Native.Nat.{ℕ, _<_, _≤_}
 use mathlib.Core.Path.{_≡_, refl}
 use mathlib.Core.Logic.{_≢_}
 use mathlib.Core.Bool.{Bool, true, false, cond, _&&_, not}
 use native.Mathlib.Omega.{arith}
 use lib.Dec.{eqb, leb}
+use borrow.Author.Tests.{eqb-false, leb-false, not-true}
 use Rattle.words.specs.Bools.{bit}
 use Rattle.protocol.specs.declared.state.Mode.{Mode}
 use Rattle.words.specs.declared.access.Access.{Access}
 use Rattle.words.specs.Access.{effectAt}
 use Rattle.protocol.specs.Rules.{flushRule}
-use Rattle.words.proofs.Bools.{by-cond}
+use Rattle.words.proofs.Bools.{Is, by-bool, by-cond}
 use Rattle.model.specs.declared.shape.Shape.{Shape}
 use Rattle.model.specs.declared.order.Call.{Call}
 use Rattle.model.specs.declared.order.Call.the-variants.{ByPort, Flush, DeviceRead, DeviceWrite}
 use Rattle.model.specs.declared.order.Decoded.{Decoded}
 use Rattle.model.specs.declared.order.Decoded.the-variants.{Asked, Refused}
-use Rattle.model.specs.Order.{decode, looks}
+use Rattle.model.specs.Order.{Order, kinds, kindOf, checked, decode, looks}
+use Rattle.model.specs.Shape.{inRange, fits, refusalOf}
 use Rattle.model.specs.Tables.{Model, lentRefusal, columnSound, seen, holds, dirty}
 use Rattle.model.specs.Step.{Result, refuse, wordFound, fetches, evictsOwner, accessRule, accessed, flushed, deviceWritten}
 use Rattle.model.specs.Step.{called, perform, step}
-use Rattle.model.specs.Claims.{FewAccesses, RefusedChangesNothing, FindSays, AuditSays}
+use Rattle.model.specs.Claims.{FewAccesses, SwappedOnce, AcceptedKind, NeverNine, RefusedChangesNothing, FindSays, AuditSays}
 use Rattle.model.specs.declared.found.Found.{Found}
 use Rattle.model.specs.declared.found.Found.the-variants as finds
 use Rattle.model.specs.Below.{Lowest, none, number, lowest}
 use Rattle.model.specs.Find.{holderOr, find, findRefusal, foundRefusal}
 use Rattle.model.proofs.Audited.{audit-facts, facts-audit}
+use Rattle.model.proofs.Decoded.{Sound, decode-sound}
 
 bit-le : (b : Bool) → bit b ≤ 1
 bit-le true = omega arith
@@ -66,6 +69,72 @@ perform-few s t (Asked c a) = by-cond Few (looks c && not (columnSound s t a)) _
 pub few-accesses : FewAccesses
 unfolding step
 few-accesses s o t = by-cond Few (eqb (lentRefusal s t) 0) _ _ (λ _. perform-few s t (decode s o)) (λ _. (omega arith, omega arith))
+
+-- What is to hold of a result: swapped is 0 or 1, and the refusal is not 9.
+abbrev Fair : Result → Type 0
+Fair r = (r .answer .swapped ≤ 1) × (r .answer .refusal ≢ 9)
+
+not-9 : {n : ℕ} → n < 9 → n ≢ 9
+not-9 h e = omega (arith, h, e)
+
+accessed-fair : (s : Shape) (t : Model) (i a : ℕ) (acc : Access) (m : Mode) → Fair (accessed s t i a acc m)
+unfolding accessed
+accessed-fair s t i a acc m = (bit-le (effectAt acc (wordFound s t i a) .swapped), not-9 (omega arith))
+
+flushed-fair : (s : Shape) (t : Model) (i a : ℕ) → Fair (flushed s t i a)
+unfolding flushed
+flushed-fair s t i a = by-cond Fair (holds s t a i) _ _ (λ _. (omega arith, not-9 (omega arith))) (λ _. (omega arith, not-9 (omega arith)))
+
+written-fair : (s : Shape) (t : Model) (a mask x : ℕ) → Fair (deviceWritten s t a mask x)
+unfolding deviceWritten
+written-fair s t a mask x = (omega arith, not-9 (omega arith))
+
+called-fair : (s : Shape) (t : Model) (c : Call) (a : ℕ) → Fair (called s t c a)
+unfolding called
+called-fair s t (ByPort acc m i) a = accessed-fair s t i a acc m
+called-fair s t (Flush i) a = flushed-fair s t i a
+called-fair s t DeviceRead a = (omega arith, not-9 (omega arith))
+called-fair s t (DeviceWrite mask x) a = written-fair s t a mask x
+
+perform-fair : (s : Shape) (t : Model) (d : Decoded) → Sound s d → Fair (perform s t d)
+unfolding perform
+perform-fair s t (Refused n) h = (omega arith, not-9 (omega (arith, h)))
+perform-fair s t (Asked c a) h = by-cond Fair (looks c && not (columnSound s t a)) _ _ (λ _. (omega arith, not-9 (omega arith)))
+    (λ _. called-fair s t c a)
+
+lent-low : (s : Shape) (t : Model) → lentRefusal s t < 9
+unfolding lentRefusal refusalOf
+lent-low s t = by-cond (λ n. n < 9) (inRange s) _ _ (λ _. by-cond (λ n. n < 9) (fits s _ _ _ _) _ _ (λ _. omega arith) (λ _. omega arith)) (λ _. omega arith)
+
+step-fair : (s : Shape) (o : Order) (t : Model) → Fair (step s o t)
+unfolding step
+step-fair s o t = by-cond Fair (eqb (lentRefusal s t) 0) _ _ (λ _. perform-fair s t (decode s o) (decode-sound s o))
+    (λ _. (omega arith, not-9 (lent-low s t)))
+
+pub swapped-once : SwappedOnce
+swapped-once s o t = step-fair s o t .0
+
+pub never-nine : NeverNine
+never-nine s o t = step-fair s o t .1
+
+-- An order of any other kind is refused.
+other-kind : (s : Shape) (o : Order) → Is (leb kinds (kindOf o)) → decode s o ≡ Refused 4
+unfolding decode checked
+other-kind s o h = rw h
+
+refused-4 : (s : Shape) (t : Model) → perform s t (Refused 4) .answer .refusal ≡ 4
+unfolding perform
+refused-4 s t = refl
+
+other-refused : (s : Shape) (o : Order) (t : Model) → Is (leb kinds (kindOf o)) → step s o t .answer .refusal ≢ 0
+unfolding step
+other-refused s o t h =
+    by-cond (λ (r : Result). r .answer .refusal ≢ 0) (eqb (lentRefusal s t) 0) _ _
+    (λ _ e. let f = rw (other-kind s o h) at e in omega (arith, f, refused-4 s t))
+    (λ n e. eqb-false (lentRefusal s t) 0 (not-true _ n) e)
+
+pub accepted-kind : AcceptedKind
+accepted-kind s o t e = by-bool (leb kinds (kindOf o)) (λ h. absurd (other-refused s o t h e)) (λ h. leb-false kinds (kindOf o) (not-true _ h))
 
 -- What is to hold of a result: it is accepted, or a refusal that changes nothing.
 abbrev Still : Model → Result → Type 0

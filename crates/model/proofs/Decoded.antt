@@ -10,7 +10,7 @@ use Rattle.model.specs.declared.shape.Shape.{Shape}
 use Rattle.model.specs.declared.order.Call.{Call}
 use Rattle.model.specs.declared.order.Decoded.{Decoded}
 use Rattle.model.specs.declared.order.Decoded.the-variants.{Asked, Refused}
-use Rattle.model.specs.Order.{Order, hasPort, checked, callOf, decode, PortThere, There}
+use Rattle.model.specs.Order.{Order, kinds, hasPort, checked, callOf, decode, PortThere, There}
 
 abbrev pub Sound : Shape → Decoded → Type 0
 Sound s (Asked c a) = There s c a
@@ -33,7 +33,7 @@ checked-sound : (s : Shape) (kind port mask line : ℕ) (call : Call) → ((kind
     → Sound s (checked s kind port mask line call)
 unfolding checked
 checked-sound s kind port mask line call f =
-    by-cond (Sound s) (leb 6 kind) _ _ (λ _. omega arith)
+    by-cond (Sound s) (leb kinds kind) _ _ (λ _. omega arith)
     (λ _. by-cond (Sound s) (hasPort kind && leb (s .ports) port) _ _ (λ _. omega arith)
     (λ h. by-cond (Sound s) (leb (s .lines) line) _ _ (λ _. omega arith)
     (λ l. by-cond (Sound s) (eqb kind 2 && not (eqb mask 0x0F || eqb mask 0xF0)) _ _ (λ _. omega arith)

@@ -1,10 +1,10 @@
 -- What is proved of a step and of the audit on every input, beside the agreement. The proofs are in proofs/Claims.antt.
-use Prim.Native.Nat.{ℕ, _≤_}
+use Prim.Native.Nat.{ℕ, _<_, _≤_}
 use mathlib.Core.Path.{_≡_}
 use mathlib.Core.Logic.{_≢_, _↔_}
 use mathlib.Core.Bool.{true}
 use Rattle.model.specs.declared.shape.Shape.{Shape}
-use Rattle.model.specs.Order.{Order}
+use Rattle.model.specs.Order.{Order, kinds, kindOf}
 use Rattle.model.specs.Tables.{Model}
 use Rattle.model.specs.Step.{step, refuse}
 use Rattle.model.specs.Audit.{audit, Coherent}
@@ -13,6 +13,18 @@ use Rattle.model.specs.Find.{find, findRefusal, foundRefusal}
 -- Each order makes at most one memory read and two memory writes.
 abbrev pub FewAccesses : Type 0
 FewAccesses = (s : Shape) (o : Order) (t : Model) → (step s o t .answer .reads ≤ 1) × (step s o t .answer .writes ≤ 2)
+
+-- The swapped number is 0 or 1.
+abbrev pub SwappedOnce : Type 0
+SwappedOnce = (s : Shape) (o : Order) (t : Model) → step s o t .answer .swapped ≤ 1
+
+-- An accepted order is of one of the kinds.
+abbrev pub AcceptedKind : Type 0
+AcceptedKind = (s : Shape) (o : Order) (t : Model) → step s o t .answer .refusal ≡ 0 → kindOf o < kinds
+
+-- The step never gives refusal 9: that is a record's of totals alone.
+abbrev pub NeverNine : Type 0
+NeverNine = (s : Shape) (o : Order) (t : Model) → step s o t .answer .refusal ≢ 9
 
 -- A refused order answers its number and four zeros, and changes nothing.
 abbrev pub RefusedChangesNothing : Type 0

@@ -19,6 +19,14 @@ pub record Order : Type 0 where
 abbrev pub bits : ℕ → ℕ → ℕ → ℕ
 bits w k n = w / 2 ^ k % 2 ^ n
 
+-- How many kinds of orders there are, from kind 0 up.
+abbrev pub kinds : ℕ
+kinds = 6
+
+-- The kind that an order's word says: its lowest three bits.
+abbrev pub kindOf : Order → ℕ
+kindOf o = bits (o .word) 0 3
+
 -- The mode in which an order runs: bit 3, 1 for write back.
 abbrev pub modeIn : ℕ → Mode
 modeIn w = cond (eqb (bits w 3 1) 1) Back Through
@@ -30,7 +38,7 @@ hasPort kind = ltb kind 4
 -- Refusals 4 to 7, in checking order, else the call and its line.
 unfoldable pub checked : Shape → ℕ → ℕ → ℕ → ℕ → Call → Decoded
 checked s kind port mask line call =
-    cond (leb 6 kind) (Refused 4)
+    cond (leb kinds kind) (Refused 4)
     (cond (hasPort kind && leb (s .ports) port) (Refused 5)
     (cond (leb (s .lines) line) (Refused 6)
     (cond (eqb kind 2 && not (eqb mask 0x0F || eqb mask 0xF0)) (Refused 7)
@@ -50,7 +58,7 @@ callOf kind m port mask compare x =
 -- The fields of the word: 0–2 kind, 3 mode, 4–7 port, 8–15 byte mask, 16–31 line, 32–63 compare value.
 unfoldable pub decode : Shape → Order → Decoded
 decode s o =
-    let kind = bits (o .word) 0 3 in
+    let kind = kindOf o in
     let port = bits (o .word) 4 4 in
     let mask = bits (o .word) 8 8 in
     let line = bits (o .word) 16 16 in

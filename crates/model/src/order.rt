@@ -2,6 +2,9 @@
 use protocol::state::Mode;
 use words::access::Access;
 
+// How many kinds of orders there are, from kind 0 up.
+pub const KINDS: usize = 6;
+
 // What an order asks of its line: an access in a mode, by a port; a flush, by a port; a device read; a device write, with a mask and an
 // operand.
 pub enum Call {

@@ -7,9 +7,9 @@ use Rattle.decode.proofs.decode_order.Tie as tie
 returns : tie.Need-returns
 unfolding decode
 returns c =
-    let after-mode-in : tie.After-mode-in = search in
-    rw (c .checked-call .ensures, c .before .call-of .ensures, after-mode-in .mode-in .ensures)
+    let after-mode-in : tie.After-mode-in = search in let after-kind-of : tie.After-kind-of = search in
+    rw (c .checked-call .ensures, c .before .call-of .ensures, after-mode-in .mode-in .ensures, after-kind-of .kind-of .ensures)
 
 pub decode-order-spec : {M : Type 1} → statement M
 decode-order-spec =
-    tie.close (tie.spec (λ c. search needs) (λ c κs. search needs) (λ c κs. search needs) (λ c κs. search needs) returns)
+    tie.close (tie.spec (λ c κs. search needs) (λ c. search needs) (λ c κs. search needs) (λ c κs. search needs) (λ c κs. search needs) returns)
