@@ -14,9 +14,9 @@
  *     if (moesi_model_init(&m, 2, 4, 16, memory, sizeof memory, room, sizeof room) == MOESI_ACCEPTED)
  *         moesi_model_step(&m, moesi_order_write(1, 0, MOESI_WRITE_BACK, 0xFF), 9);
  *
- * moesi_fresh, moesi_step and moesi_audit are what is proved, and what the
- * struct calls. They are for programs that lay out their own tables; their
- * argument lists grow with the model.
+ * moesi_fresh, moesi_step, moesi_step_totals and moesi_audit are what is proved,
+ * and what the struct calls. They are for programs that lay out their own tables;
+ * their argument lists grow with the model.
  *
  * The model
  * =========
@@ -55,12 +55,16 @@
  * --------
  *
  * Each call returns 0, or the number of the first of these that applies, in this
- * order. Fresh and the audit give 2 and 3 only; 1 belongs to the program trace.
+ * order. Fresh and the audit give 2 and 3 only; 1 belongs to the programs trace
+ * and totals.
  *
+ *   9  moesi_step_totals alone, and before every other: the record has its length,
+ *      and some total in it is above MOESI_MOST_TOTAL, 2^64 - 3
  *   2  a number of the shape is out of its range (ports 1 to 8; sets 1, 2, 4, 8,
  *      16, 32 or 64; lines 1 to 4,096)
  *   3  a slice hasn't exactly the length that the shape gives, or the answer
- *      isn't 40 bytes, or the verdict isn't 1 byte
+ *      isn't 40 bytes, or the verdict isn't 1 byte, or the record isn't
+ *      MOESI_RECORD_BYTES
  *   4  the kind is 6 or 7
  *   5  the port isn't below ports (not asked of a device read or a device write,
  *      which have no port)
@@ -69,17 +73,19 @@
  *   8  at the line's index, some port's entry has a byte that is no state, or
  *      isn't invalid and has a home line not below lines (asked of every kind but
  *      a device read). A model that starts fresh, and whose memory and tables
- *      nobody but moesi_step writes, never gives it.
+ *      nobody but moesi_step and moesi_step_totals writes, never gives it.
  *
- * A refused call changes no lent byte but the answer (number and four zeros) or
- * the verdict (0). An answer or a verdict of another length is left alone.
+ * A refused call changes no lent byte but the answer (number and four zeros), the
+ * verdict (0), or the record (the refused order is counted, unless the refusal is
+ * 9). An answer, a verdict or a record of another length is left alone.
  *
  * What a device sees
  * ------------------
  *
  * A device reads main memory behind the caches, so a word that a port wrote in
  * write back may not be there yet. For a model that starts fresh, and whose
- * memory and tables nobody but moesi_step writes, this is proved: a device read
+ * memory and tables nobody but moesi_step and moesi_step_totals writes, this is
+ * proved: a device read
  * of a line is right (it gives the word that a port would read) with no flush,
  * unless the line was written in write back, by a write or by a swap that
  * succeeded, since its last write-through access by any port (a read, a write or
@@ -106,6 +112,26 @@
  * the ports hold of the buffer; also where the device fills a line in part, for
  * what a port wrote beside its bytes is not lost. All this is said of the model's
  * device, which the caches hear when it writes, and not when it reads.
+ *
+ * Totals for a run
+ * ----------------
+ *
+ * Drivers are compared by their traffic. moesi_step_totals does what moesi_step
+ * does, and brings a record up to date that the caller lends: ten numbers of 64
+ * bits, little-endian, at the places MOESI_TOTAL_ below. They are the accepted
+ * orders of each kind from kind 0 up, the refused orders, the memory reads, the
+ * memory writes, and the swaps that succeeded. A run starts from a record of
+ * zeros; the record is the caller's, so one record may follow one model or
+ * several.
+ *
+ * Every call with a record of its length is counted, refused ones too, also those
+ * with a wrong shape or a wrong slice (2 and 3). Refusal 9 alone is counted
+ * nowhere: it is given before anything else is looked at where a total has no
+ * room for an order more, and it changes neither memory nor tables nor record.
+ * For a record from zeros that nobody else writes this is proved: each total is
+ * the sum over the answers given so far other than 9. As long as 9 is not given,
+ * answers, memory and tables are those that moesi_step gives, and what is said
+ * above of devices holds.
  */
 
 #ifndef MOESI_H
@@ -134,6 +160,20 @@
 #define MOESI_FLUSH 3u
 #define MOESI_DEVICE_READ 4u
 #define MOESI_DEVICE_WRITE 5u
+#define MOESI_KINDS 6u
+
+/* Places in a record of totals, from 0: accepted orders of a kind, refused orders, memory reads and writes, swaps. */
+#define MOESI_TOTAL_ACCEPTED(kind) (kind)
+#define MOESI_TOTAL_REFUSED MOESI_KINDS
+#define MOESI_TOTAL_READS (MOESI_KINDS + 1u)
+#define MOESI_TOTAL_WRITES (MOESI_KINDS + 2u)
+#define MOESI_TOTAL_SWAPS (MOESI_KINDS + 3u)
+
+/* Bytes of a record of totals: ten numbers of eight bytes. */
+#define MOESI_RECORD_BYTES (8u * (MOESI_KINDS + 4u))
+
+/* The highest total to which an order is still added; above it moesi_step_totals gives refusal 9. */
+#define MOESI_MOST_TOTAL (UINT64_MAX - 2)
 
 /* Modes of an access. */
 #define MOESI_WRITE_THROUGH 0u
@@ -163,6 +203,9 @@
 #define MOESI_REFUSED_MASK 7u
 #define MOESI_REFUSED_ENTRY 8u
 
+/* The refusal of a record that is full, which comes before every other. */
+#define MOESI_REFUSED_TOTALS 9u
+
 #ifdef __cplusplus
 extern "C" {
 #endif
@@ -190,6 +233,22 @@ uint64_t moesi_step(uint64_t ports, uint64_t sets, uint64_t lines,
                     uint8_t *states, size_t states_len,
                     uint8_t *data, size_t data_len,
                     uint8_t *answer, size_t answer_len);
+
+/*
+ * The same, and the record of totals is brought up to date: the order is counted
+ * under its kind if it is accepted, else as refused, and its memory reads and
+ * writes and a swap that succeeded are added. Where a total of the record has no
+ * room (refusal 9) or the record has another length (refusal 3), nothing but the
+ * answer is written.
+ */
+uint64_t moesi_step_totals(uint64_t ports, uint64_t sets, uint64_t lines,
+                           uint64_t word, uint64_t operand,
+                           uint8_t *memory, size_t memory_len,
+                           uint8_t *tags, size_t tags_len,
+                           uint8_t *states, size_t states_len,
+                           uint8_t *data, size_t data_len,
+                           uint8_t *answer, size_t answer_len,
+                           uint8_t *record, size_t record_len);
 
 /*
  * Says whether the tables are coherent, and writes 1 for yes or 0 for no into
@@ -378,6 +437,29 @@ static inline struct moesi_answer moesi_read_answer(const uint8_t *bytes)
     return answer;
 }
 
+/* The totals of a run, out of a record. */
+struct moesi_totals {
+    uint64_t accepted[MOESI_KINDS]; /* accepted orders, by kind */
+    uint64_t refused;               /* refused orders, whatever the refusal but 9 */
+    uint64_t memory_reads;          /* words fetched from main memory */
+    uint64_t memory_writes;         /* words stored in main memory */
+    uint64_t swaps;                 /* swaps that succeeded */
+};
+
+/* Reads the totals out of the MOESI_RECORD_BYTES of a record. */
+static inline struct moesi_totals moesi_read_totals(const uint8_t *record)
+{
+    struct moesi_totals totals;
+
+    for (size_t kind = 0; kind < MOESI_KINDS; kind++)
+        totals.accepted[kind] = moesi_get_word(record, MOESI_TOTAL_ACCEPTED(kind));
+    totals.refused = moesi_get_word(record, MOESI_TOTAL_REFUSED);
+    totals.memory_reads = moesi_get_word(record, MOESI_TOTAL_READS);
+    totals.memory_writes = moesi_get_word(record, MOESI_TOTAL_WRITES);
+    totals.swaps = moesi_get_word(record, MOESI_TOTAL_SWAPS);
+    return totals;
+}
+
 /*
  * A model as one value
  * ====================
@@ -470,6 +552,21 @@ static inline struct moesi_answer moesi_model_step(struct moesi_model *m, uint64
 
     moesi_step(m->ports, m->sets, m->lines, word, operand, m->memory, m->sizes.memory, m->tags, m->sizes.tags,
                m->states, m->sizes.states, m->data, m->sizes.data, bytes, sizeof bytes);
+    return moesi_read_answer(bytes);
+}
+
+/*
+ * Carries out one order and counts it in the record, MOESI_RECORD_BYTES of zeros
+ * at the start of a run. A record with a total that has no room (refusal 9) or of
+ * another length (refusal 3) is left alone, and nothing changes.
+ */
+static inline struct moesi_answer moesi_model_step_totals(struct moesi_model *m, uint64_t word, uint64_t operand,
+                                                          uint8_t *record, size_t record_len)
+{
+    uint8_t bytes[MOESI_ANSWER_BYTES];
+
+    moesi_step_totals(m->ports, m->sets, m->lines, word, operand, m->memory, m->sizes.memory, m->tags, m->sizes.tags,
+                      m->states, m->sizes.states, m->data, m->sizes.data, bytes, sizeof bytes, record, record_len);
     return moesi_read_answer(bytes);
 }
 

@@ -1,7 +1,7 @@
 -- Laws of little-endian numbers: one number in bytes, and a list of them. Assumes nothing.
 use Prim.Native.Nat.{ℕ, zero, suc, _+_, _*_, _/_, _%_, _^_, _<_, _≤_}
 use mathlib.Core.Path.{_≡_, refl, ap, sym, _∙_}
-use mathlib.Core.List.{List, [], _∷_}
+use mathlib.Core.List.{List, [], _∷_, _++_}
 use native.Mathlib.Omega.{arith}
 use native.Mathlib.Nat.{add-zero, zero-add, suc-add, add-comm, mul-zero, mul-suc}
 use lib.ListN.{getD, set, length, take, drop, take-append-drop, length-drop}
@@ -151,6 +151,37 @@ same-bytes w (suc n) bs h r =
     let m : length bs ≡ w * n + w = r ∙ mul-suc w n in
     rw (same-number w bs h (omega arith), same-bytes w n (drop w bs) (λ k. rw (getD-drop w bs k 0) (h (w + k))) (length-drop w bs ∙ omega arith))
     (take-append-drop w bs)
+
+-- Numbers written as bytes and read again are the same.
+read-back : (w x : ℕ) (bs : List ℕ) → x < 256 ^ w → number w (bytesOf w x ++ bs) ≡ x
+unfolding number bytesOf
+read-back zero x bs h = omega arith
+read-back (suc w) x bs h = rw (read-back w (x / 256) bs (omega (arith, pow-add 256 1 w))) (omega arith)
+
+behind-read : (w x : ℕ) (bs : List ℕ) → drop w (bytesOf w x ++ bs) ≡ bs
+unfolding bytesOf
+behind-read zero x bs = refl
+behind-read (suc w) x bs = behind-read w (x / 256) bs
+
+-- Number k of a list of numbers written as bytes.
+no-number : (w i : ℕ) → number w (drop i []) ≡ 0
+unfolding number
+no-number zero i = refl
+no-number (suc w) zero = let e = no-number w 0 in omega (arith, e)
+no-number (suc w) (suc i) = let e = no-number w 0 in omega (arith, e)
+
+pub number-at : (w : ℕ) (xs : List ℕ) (k : ℕ) → getD xs k 0 < 256 ^ w → number w (drop (w * k) (encoded w xs)) ≡ getD xs k 0
+unfolding encoded
+number-at w [] k h = no-number w (w * k)
+number-at w (x ∷ xs) zero h = rw (mul-zero w) (read-back w x (encoded w xs) h)
+number-at w (x ∷ xs) (suc k) h =
+    rw (mul-suc w k, add-comm (w * k) w, ← drop-drop (w * k) w (bytesOf w x ++ encoded w xs), behind-read w x (encoded w xs)) (number-at w xs k h)
+
+pub numbers-back : (w : ℕ) (xs : List ℕ) → ((k : ℕ) → getD xs k 0 < 256 ^ w) → numbers w (length xs) (encoded w xs) ≡ xs
+unfolding numbers encoded
+numbers-back w [] h = refl
+numbers-back w (x ∷ xs) h =
+    rw (read-back w x (encoded w xs) (h 0), behind-read w x (encoded w xs), numbers-back w xs (λ k. h (suc k)))
 
 -- A number of w bytes is below 256 ^ w.
 pub number-fits : (w : ℕ) (bs : List ℕ) → ((k : ℕ) → getD bs k 0 < 256) → number w bs < 256 ^ w

@@ -1,2 +1,3 @@
--- What a C host sees of the model.
+-- What a C host sees of the model, and of totals.
 pub mod Host
+pub mod Totals

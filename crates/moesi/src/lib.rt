@@ -1,5 +1,9 @@
-// The C interface: step, fresh and audit on numbers and byte slices, as include/moesi.h declares them. Each returns its refusal, 0 if none.
+// The C interface: step, step with totals, fresh and audit on numbers and byte slices, as include/moesi.h declares them. Each returns its
+// refusal, 0 if none.
 // All that is asked of the caller is that the slices have the lengths that it says and share no byte with one another.
+use caches::answer;
+use counters::lent;
+use model::answer::Answer;
 use model::shape::Shape;
 ghost use mathlib.Core.Path.{_≡_};
 ghost use mathlib.Core.Bool.{true};
@@ -10,6 +14,7 @@ ghost use Rattle.model.specs.Shape.{inRange};
 ghost use Rattle.decode.specs.Order.{order};
 ghost use Rattle.ports.specs.Bytes.{bytes};
 ghost use Rattle.moesi.specs.Host.{bytesFit, refusalBy, answerBytes, hosted, hostStep, hostFresh, hostAudit};
+ghost use Rattle.moesi.specs.Totals.{refusalPut, countsIn, withRecord, hostStepTotals};
 
 // The lengths of the slices in bytes are those of the shape.
 fn bytes_fit(shape: Shape, memory: usize, tags: usize, states: usize, data: usize) -> bool
@@ -90,6 +95,90 @@ pub extern "C" fn moesi_step(
     let a = step::step_order(shape, memory, tags, states, data, word, operand);
     put_answer(answer, a.refusal, a.value, a.swapped, a.reads, a.writes);
     a.refusal
+}
+
+// A refusal's five numbers, where the slice has its 40 bytes; one of another length is left alone.
+fn put_refusal(out: &mut [u8], n: u64)
+    ensures { λ r. ⌜ now (out .exit) ≡ refusalPut n (now (out .entry)) ⌝ }
+{
+    if out.len() == 40 {
+        put_answer(out, n, 0, 0, 0, 0);
+    }
+}
+
+// What a call of step that returned n tells the counters: its refusal, or, of an accepted order, the numbers that it wrote. The value is not
+// counted.
+fn counts_in(n: u64, out: &[u8]) -> Answer
+    requires { ⌜ (n ≡ 0 → length (now out) ≡ 40) ⌝ }
+    ensures { λ r. ⌜ r ≡ countsIn n (now (out .entry)) ⌝ }
+{
+    if n != 0 {
+        return answer::refuse(n);
+    }
+    Answer {
+        refusal: 0,
+        value: 0,
+        swapped: endian::read_eight(out, 16),
+        reads: endian::read_eight(out, 24),
+        writes: endian::read_eight(out, 32),
+    }
+}
+
+// One order with a record of totals, which is brought up to date. Refusal 9 comes first of all, where the record has its length and a total
+// has no room; a record of another length is refused and left alone.
+#[no_mangle]
+pub extern "C" fn moesi_step_totals(
+    ports: usize,
+    sets: usize,
+    lines: usize,
+    word: u64,
+    operand: u64,
+    memory: &mut [u8],
+    tags: &mut [u8],
+    states: &mut [u8],
+    data: &mut [u8],
+    answer: &mut [u8],
+    totals: &mut [u8],
+) -> u64
+    ensures { λ r. ⌜ withRecord (hosted r (bytes (now (memory .exit)) (now (tags .exit)) (now (states .exit)) (now («data» .exit)))
+        (now (answer .exit))) (now (totals .exit))
+        ≡ hostStepTotals (record { ports = ports; sets = sets; lines = lines }) (order word operand)
+        (bytes (now (memory .entry)) (now (tags .entry)) (now (states .entry)) (now («data» .entry))) (now (answer .entry))
+        (now (totals .entry)) ⌝ }
+{
+    if totals.len() != lent::RECORD_BYTES {
+        let shape = Shape { ports, sets, lines };
+        let n = refusal_by(
+            shape,
+            memory.len(),
+            tags.len(),
+            states.len(),
+            data.len(),
+            false,
+        );
+        put_refusal(answer, n);
+        return n;
+    }
+    let t = lent::totals_in(totals);
+    if counters::is_full(t) {
+        put_refusal(answer, 9);
+        return 9;
+    }
+    let n = moesi_step(
+        ports,
+        sets,
+        lines,
+        word,
+        operand,
+        memory,
+        tags,
+        states,
+        data,
+        answer,
+    );
+    let a = counts_in(n, answer);
+    lent::put_totals(totals, counters::updated(t, decode::kind_of(word), a));
+    n
 }
 
 // A fresh model: zeros in the three tables.
