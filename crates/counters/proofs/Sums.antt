@@ -9,9 +9,10 @@ use native.Mathlib.Omega.{arith}
 use native.Mathlib.Decide.{ℕ-discrete}
 use lib.ListN.{getD, set, length, replicate, length-set, getD-replicate}
 use lib.Seq.{getD-set-same, getD-set-other}
-use lib.Dec.{eqb}
-use borrow.Author.Tests.{eq-eqb, ne-eqb}
+use lib.Dec.{eqb, ltb}
+use borrow.Author.Tests.{eq-eqb, ne-eqb, ltb-true, ltb-false, not-true}
 use Rattle.words.specs.Bools.{bit}
+use Rattle.words.proofs.Bools.{by-bool}
 use Rattle.model.specs.declared.shape.Shape.{Shape}
 use Rattle.model.specs.declared.answer.Answer.{Answer}
 use Rattle.model.specs.Order.{Order, kinds, kindOf}
@@ -22,12 +23,13 @@ use Rattle.model.specs.Agreement.{Agrees, AgreesOver}
 use Rattle.model.specs.Marks.{modelRun}
 use Rattle.model.proofs.Claims.{never-nine}
 use Rattle.model.proofs.Theorem.{agreement}
-use Rattle.counters.specs.declared.Totals.{Totals}
-use Rattle.counters.specs.Totals.{full, acceptedAfter, refusedAfter, totalsAfter, Few, Counting, counting, stepTotals}
-use Rattle.counters.specs.Run.{zeros, Answered, answered, answersWith, modelWith, totalsWith, others, sumOf, acceptedIn, refusedIn, readsIn}
+use Rattle.counters.specs.Totals.{Totals, refusedPlace, readsPlace, writesPlace, swapsPlace, places, totalAt, zeros, full, orderPlace}
+use Rattle.counters.specs.Totals.{plus, totalsAfter, Few, Counting, counting, stepTotals}
+use Rattle.counters.specs.Run.{Answered, answered, answersWith, modelWith, totalsWith, others, sumOf, acceptedIn, refusedIn, readsIn}
 use Rattle.counters.specs.Run.{writesIn, swappedIn, AreSums, TotalsAreSums, Without9, answersWithout, SameWithout9, AgreesWith}
-use Rattle.counters.specs.Run.{AgreementWithTotals, Below, TwoToAnOrder}
+use Rattle.counters.specs.Run.{AgreementWithTotals, TwoToAnOrder}
 use Rattle.counters.proofs.Answers.{step-few}
+use Rattle.counters.proofs.Counting.{place-low}
 
 -- One answer, and then others: its number counts unless it is 9.
 others-more : (f : Answered → ℕ) (x : Answered) (xs : List Answered) → sumOf f (others (x ∷ xs)) ≡ sumOf f (others (x ∷ [])) + sumOf f (others xs)
@@ -38,7 +40,11 @@ others-more f x xs = go (eqb (x .answer .refusal) 9)
     go true = omega arith
     go false = omega arith
 
--- An answer 9 counts for nothing, another for its number.
+-- No answer and an answer 9 count for nothing, another for its number.
+none-counts : (f : Answered → ℕ) → sumOf f (others []) ≡ 0
+unfolding others sumOf
+none-counts f = refl
+
 nine-counts : (f : Answered → ℕ) (k : ℕ) → sumOf f (others (answered k (refused 9) ∷ [])) ≡ 0
 unfolding others sumOf
 nine-counts f k = refl
@@ -49,17 +55,17 @@ other-counts f x d = rw (ne-eqb (x .answer .refusal) 9 d) (omega arith)
 
 -- What one answer adds: m are the totals after it, n those before.
 pub record Adds (n m : Totals) (x : Answered) : Type 0 where
-  pub accepted : (k : ℕ) → getD (m .accepted) k 0 ≡ getD (n .accepted) k 0 + sumOf (acceptedIn k) (others (x ∷ []))
-  pub refused : m .refused ≡ n .refused + sumOf refusedIn (others (x ∷ []))
-  pub reads : m .reads ≡ n .reads + sumOf readsIn (others (x ∷ []))
-  pub writes : m .writes ≡ n .writes + sumOf writesIn (others (x ∷ []))
-  pub swaps : m .swaps ≡ n .swaps + sumOf swappedIn (others (x ∷ []))
-  pub same : length (m .accepted) ≡ length (n .accepted)
+  pub accepted : (k : ℕ) → k < kinds → totalAt m k ≡ totalAt n k + sumOf (acceptedIn k) (others (x ∷ []))
+  pub refused : totalAt m refusedPlace ≡ totalAt n refusedPlace + sumOf refusedIn (others (x ∷ []))
+  pub reads : totalAt m readsPlace ≡ totalAt n readsPlace + sumOf readsIn (others (x ∷ []))
+  pub writes : totalAt m writesPlace ≡ totalAt n writesPlace + sumOf writesIn (others (x ∷ []))
+  pub swaps : totalAt m swapsPlace ≡ totalAt n swapsPlace + sumOf swappedIn (others (x ∷ []))
+  pub same : length m ≡ length n
 
 -- Refusal 9 adds nothing.
 pub adds-none : (n : Totals) (k : ℕ) → Adds n n (answered k (refused 9))
 adds-none n k = record {
-  accepted = λ j. omega (arith, nine-counts (acceptedIn j) k);
+  accepted = λ j _. omega (arith, nine-counts (acceptedIn j) k);
   refused = omega (arith, nine-counts refusedIn k);
   reads = omega (arith, nine-counts readsIn k);
   writes = omega (arith, nine-counts writesIn k);
@@ -67,65 +73,104 @@ adds-none n k = record {
   same = refl;
 }
 
--- The accepted orders of kind k, with one answer more.
-accepted-more : (l : List ℕ) (kind n k : ℕ) → (n ≡ 0 → kind < length l)
-    → getD (acceptedAfter l kind n) k 0 ≡ getD l k 0 + bit (eqb n 0 && eqb kind k)
-unfolding acceptedAfter
-accepted-more l kind n k h =
-    elim (ℕ-discrete n 0) [
-      | yes e ↦ elim (ℕ-discrete kind k) [
-        | yes f ↦ rw (e, eq-eqb kind k f, ← f) (getD-set-same l kind (getD l kind 0 + 1) 0 (h e))
-        | no d ↦ rw (e, ne-eqb kind k d) (getD-set-other l kind k (getD l kind 0 + 1) 0 (λ x. d (sym x)) ∙ omega arith)
-      ]
-      | no d ↦ rw (ne-eqb n 0 d) (omega arith)
+-- One place with something more, seen from a place.
+plus-at : (n : Totals) (k v j : ℕ) → k < length n → totalAt (plus k v n) j ≡ totalAt n j + cond (eqb k j) v 0
+plus-at n k v j h =
+    elim (ℕ-discrete k j) [
+      | yes e ↦ rw (eq-eqb k j e, ← e) (getD-set-same n k (totalAt n k + v) 0 h)
+      | no d ↦ rw (ne-eqb k j d) (getD-set-other n k j (totalAt n k + v) 0 (λ e. d (sym e)) ∙ omega arith)
     ]
 
-same-length : (l : List ℕ) (kind n : ℕ) → length (acceptedAfter l kind n) ≡ length l
-unfolding acceptedAfter
-same-length l kind n = go (eqb n 0)
-  where
-    go : (b : Bool) → length (cond b (set l kind (getD l kind 0 + 1)) l) ≡ length l
-    go true = length-set l kind (getD l kind 0 + 1)
-    go false = refl
-
--- The refused orders.
-refused-more : (m n : ℕ) → refusedAfter m n ≡ m + bit (not (eqb n 0))
-unfolding refusedAfter
-refused-more m n = go (eqb n 0)
-  where
-    go : (b : Bool) → cond b m (m + 1) ≡ m + bit (not b)
-    go true = omega arith
-    go false = refl
+plus-length : (n : Totals) (k v : ℕ) → length (plus k v n) ≡ length n
+plus-length n k v = length-set n k (totalAt n k + v)
 
 -- The swapped number of an answer is one where it is 1.
-swapped-more : (v : ℕ) → v ≤ 1 → bit (eqb v 1) ≡ v
-swapped-more zero h = refl
-swapped-more (suc zero) h = refl
-swapped-more (suc (suc v)) h = absurd (omega arith)
+swapped-one : (v : ℕ) → v ≤ 1 → v ≡ bit (eqb v 1)
+swapped-one zero h = refl
+swapped-one (suc zero) h = refl
+swapped-one (suc (suc v)) h = absurd (omega arith)
 
--- Another answer is counted.
-pub adds-answer : (n : Totals) (kind : ℕ) (a : Answer) → length (n .accepted) ≡ kinds → Few kind a → a .refusal ≢ 9
-    → Adds n (totalsAfter n kind a) (answered kind a)
-unfolding totalsAfter
-adds-answer n kind a l few d =
-    let x = answered kind a in
-    record {
-      accepted = λ k. accepted-more (n .accepted) kind (a .refusal) k (λ e. rw l (few .kind-counted e)) ∙ more _ (acceptedIn k) x d;
-      refused = refused-more (n .refused) (a .refusal) ∙ more _ refusedIn x d;
-      reads = more _ readsIn x d;
-      writes = more _ writesIn x d;
-      swaps = ap (λ (v : ℕ). n .swaps + v) (sym (swapped-more (a .swapped) (few .swapped))) ∙ more _ swappedIn x d;
-      same = same-length (n .accepted) kind (a .refusal);
-    }
-  where
-    more : (m : ℕ) (f : Answered → ℕ) (x : Answered) → x .answer .refusal ≢ 9 → m + f x ≡ m + sumOf f (others (x ∷ []))
-    more m f x d = ap (λ (v : ℕ). m + v) (sym (other-counts f x d))
+one-if : (b : Bool) → cond b 1 0 ≡ bit b
+one-if true = refl
+one-if false = refl
+
+module _ (n : Totals) (kind : ℕ) (a : Answer) (l : length n ≡ places) (few : Few kind a) where
+  abbrev own : ℕ
+  own = orderPlace kind (a .refusal)
+
+  own-low : own ≤ kinds
+  own-low = place-low few refl
+
+  -- The totals with an answer counted, seen from a place.
+  after-at : (j : ℕ) → totalAt (totalsAfter n kind a) j
+      ≡ totalAt n j + cond (eqb own j) 1 0 + cond (eqb readsPlace j) (a .reads) 0 + cond (eqb writesPlace j) (a .writes) 0 + cond (eqb swapsPlace j) (a .swapped) 0
+  unfolding totalsAfter
+  after-at j =
+      let n₁ = plus own 1 n in
+      let n₂ = plus readsPlace (a .reads) n₁ in
+      let n₃ = plus writesPlace (a .writes) n₂ in
+      let l₁ : length n₁ ≡ places = plus-length n own 1 ∙ l in
+      let l₂ : length n₂ ≡ places = plus-length n₁ readsPlace (a .reads) ∙ l₁ in
+      let l₃ : length n₃ ≡ places = plus-length n₂ writesPlace (a .writes) ∙ l₂ in
+      let e₁ = plus-at n own 1 j (omega (arith, l, own-low)) in
+      let e₂ = plus-at n₁ readsPlace (a .reads) j (omega (arith, l₁)) in
+      let e₃ = plus-at n₂ writesPlace (a .writes) j (omega (arith, l₂)) in
+      let e₄ = plus-at n₃ swapsPlace (a .swapped) j (omega (arith, l₃)) in
+      rw (e₄, e₃, e₂, e₁)
+
+  after-length : length (totalsAfter n kind a) ≡ length n
+  unfolding totalsAfter
+  after-length =
+      let n₁ = plus own 1 n in
+      let n₂ = plus readsPlace (a .reads) n₁ in
+      plus-length (plus writesPlace (a .writes) n₂) swapsPlace (a .swapped) ∙ plus-length n₂ writesPlace (a .writes)
+      ∙ plus-length n₁ readsPlace (a .reads) ∙ plus-length n own 1
+
+  -- The order itself, at a kind's place and at that of refused orders.
+  own-kind : (k : ℕ) → k < kinds → cond (eqb own k) 1 0 ≡ acceptedIn k (answered kind a)
+  own-kind k h =
+      elim (ℕ-discrete (a .refusal) 0) [
+        | yes e ↦ rw (eq-eqb (a .refusal) 0 e) (one-if (eqb kind k))
+        | no d ↦ rw (ne-eqb (a .refusal) 0 d, ne-eqb refusedPlace k (λ e. omega (arith, e, h))) refl
+      ]
+
+  own-refused : cond (eqb own refusedPlace) 1 0 ≡ refusedIn (answered kind a)
+  own-refused =
+      elim (ℕ-discrete (a .refusal) 0) [
+        | yes e ↦ rw (eq-eqb (a .refusal) 0 e, ne-eqb kind refusedPlace (λ f. omega (arith, f, few .kind-counted e))) refl
+        | no d ↦ rw (ne-eqb (a .refusal) 0 d) refl
+      ]
+
+  own-elsewhere : (j : ℕ) → kinds < j → _≡_ {A = ℕ} (cond (eqb own j) 1 0) 0
+  own-elsewhere j h = rw (ne-eqb own j (λ e. omega (arith, e, h, own-low))) refl
+
+  -- An answer other than 9 is counted.
+  pub adds-answer : a .refusal ≢ 9 → Adds n (totalsAfter n kind a) (answered kind a)
+  adds-answer d =
+      let x = answered kind a in
+      record {
+        accepted = λ k h. at-kind k h ∙ more _ (acceptedIn k) x d;
+        refused = after-at refusedPlace ∙ ap (λ (v : ℕ). totalAt n refusedPlace + v + 0 + 0 + 0) own-refused ∙ omega arith ∙ more _ refusedIn x d;
+        reads = after-at readsPlace ∙ omega (arith, own-elsewhere readsPlace (omega arith)) ∙ more _ readsIn x d;
+        writes = after-at writesPlace ∙ omega (arith, own-elsewhere writesPlace (omega arith)) ∙ more _ writesIn x d;
+        swaps = after-at swapsPlace ∙ omega (arith, own-elsewhere swapsPlace (omega arith), swapped-one (a .swapped) (few .swapped)) ∙ more _ swappedIn x d;
+        same = after-length;
+      }
+    where
+      more : (m : ℕ) (f : Answered → ℕ) (x : Answered) → x .answer .refusal ≢ 9 → m + f x ≡ m + sumOf f (others (x ∷ []))
+      more m f x d = ap (λ (v : ℕ). m + v) (sym (other-counts f x d))
+
+      at-kind : (k : ℕ) → k < kinds → totalAt (totalsAfter n kind a) k ≡ totalAt n k + acceptedIn k (answered kind a)
+      at-kind k h =
+          after-at k
+          ∙ rw (ne-eqb readsPlace k (λ e. omega (arith, e, h)), ne-eqb writesPlace k (λ e. omega (arith, e, h)), ne-eqb swapsPlace k (λ e. omega (arith, e, h)))
+          (omega (arith, own-kind k h))
 
 -- The step with totals, where they have no room and where they have.
 abbrev either : Shape → Order → Model → Totals → Bool → Counting
 either s o t n b = cond b (counting (refused 9) t n) (counting (step s o t .answer) (step s o t .after) (totalsAfter n (kindOf o) (step s o t .answer)))
 
-adds-step : (s : Shape) (o : Order) (t : Model) (n : Totals) → length (n .accepted) ≡ kinds
+adds-step : (s : Shape) (o : Order) (t : Model) (n : Totals) → length n ≡ places
     → Adds n (stepTotals s o t n .totals) (answered (kindOf o) (stepTotals s o t n .answer))
 unfolding stepTotals
 adds-step s o t n l = go (full n)
@@ -136,29 +181,38 @@ adds-step s o t n l = go (full n)
 
 -- From any totals, each grows by its sum over the answers.
 pub record Grows (n m : Totals) (xs : List Answered) : Type 0 where
-  pub accepted : (k : ℕ) → getD (m .accepted) k 0 ≡ getD (n .accepted) k 0 + sumOf (acceptedIn k) (others xs)
-  pub refused : m .refused ≡ n .refused + sumOf refusedIn (others xs)
-  pub reads : m .reads ≡ n .reads + sumOf readsIn (others xs)
-  pub writes : m .writes ≡ n .writes + sumOf writesIn (others xs)
-  pub swaps : m .swaps ≡ n .swaps + sumOf swappedIn (others xs)
+  pub accepted : (k : ℕ) → k < kinds → totalAt m k ≡ totalAt n k + sumOf (acceptedIn k) (others xs)
+  pub refused : totalAt m refusedPlace ≡ totalAt n refusedPlace + sumOf refusedIn (others xs)
+  pub reads : totalAt m readsPlace ≡ totalAt n readsPlace + sumOf readsIn (others xs)
+  pub writes : totalAt m writesPlace ≡ totalAt n writesPlace + sumOf writesIn (others xs)
+  pub swaps : totalAt m swapsPlace ≡ totalAt n swapsPlace + sumOf swappedIn (others xs)
+  pub same : length m ≡ length n
 
 pub grows-none : (n : Totals) → Grows n n []
 unfolding others sumOf
-grows-none n = record { accepted = λ k. omega arith; refused = omega arith; reads = omega arith; writes = omega arith; swaps = omega arith }
+grows-none n = record {
+  accepted = λ k _. omega arith;
+  refused = omega arith;
+  reads = omega arith;
+  writes = omega arith;
+  swaps = omega arith;
+  same = refl;
+}
 
 pub grows-more : {n m p : Totals} {x : Answered} {xs : List Answered} → Adds n m x → Grows m p xs → Grows n p (x ∷ xs)
 grows-more {x = x} {xs = xs} u v = record {
-  accepted = λ k. chain _ (acceptedIn k) (u .accepted k) (v .accepted k);
+  accepted = λ k h. chain _ (acceptedIn k) (u .accepted k h) (v .accepted k h);
   refused = chain _ refusedIn (u .refused) (v .refused);
   reads = chain _ readsIn (u .reads) (v .reads);
   writes = chain _ writesIn (u .writes) (v .writes);
   swaps = chain _ swappedIn (u .swaps) (v .swaps);
+  same = v .same ∙ u .same;
 }
   where
     chain : (a : ℕ) {b c : ℕ} (f : Answered → ℕ) → b ≡ a + sumOf f (others (x ∷ [])) → c ≡ b + sumOf f (others xs) → c ≡ a + sumOf f (others (x ∷ xs))
     chain a f e g = let h = others-more f x xs in omega (arith, e, g, h)
 
-grows : (s : Shape) (os : List Order) (t : Model) (n : Totals) → length (n .accepted) ≡ kinds → Grows n (totalsWith s os t n) (answersWith s os t n)
+grows : (s : Shape) (os : List Order) (t : Model) (n : Totals) → length n ≡ places → Grows n (totalsWith s os t n) (answersWith s os t n)
 unfolding totalsWith answersWith
 grows s [] t n l = grows-none n
 grows s (o ∷ os) t n l =
@@ -166,15 +220,10 @@ grows s (o ∷ os) t n l =
     let u = adds-step s o t n l in
     grows-more u (grows s os (r .after) (r .totals) (u .same ∙ l))
 
-pub zeros-length : length (zeros .accepted) ≡ kinds
-unfolding zeros
-zeros-length = refl
-
 -- What grows from zeros is the sums.
 pub from-zeros : {m : Totals} {xs : List Answered} → Grows zeros m xs → AreSums m (others xs)
-unfolding zeros
 from-zeros {m} {xs} g = record {
-  accepted = λ k h. g .accepted k ∙ ap (λ (z : ℕ). z + sumOf (acceptedIn k) (others xs)) (getD-replicate kinds k 0 0 h) ∙ omega arith;
+  accepted = λ k h. g .accepted k h ∙ ap (λ (z : ℕ). z + sumOf (acceptedIn k) (others xs)) (getD-replicate places k 0 0 (omega (arith, h))) ∙ omega arith;
   refused = g .refused ∙ omega arith;
   reads = g .reads ∙ omega arith;
   writes = g .writes ∙ omega arith;
@@ -182,7 +231,7 @@ from-zeros {m} {xs} g = record {
 }
 
 pub totals-are-sums : TotalsAreSums
-totals-are-sums s os t = from-zeros (grows s os t zeros zeros-length)
+totals-are-sums s os t = from-zeros (grows s os t zeros refl)
 
 -- Where 9 is not given, the step with totals is the step.
 not-nine : (s : Shape) (o : Order) (t : Model) (n : Totals) → stepTotals s o t n .answer .refusal ≢ 9
@@ -219,74 +268,57 @@ agrees-with s (o ∷ os) t n f h a =
 pub agreement-with-totals : AgreementWithTotals
 agreement-with-totals s t z os n h = agrees-with s os _ n _ h (agreement s t z os)
 
--- What one answer counts for is at most two.
-record Small (x : Answered) : Type 0 where
-  accepted : (k : ℕ) → sumOf (acceptedIn k) (others (x ∷ [])) ≤ 2
-  refused : sumOf refusedIn (others (x ∷ [])) ≤ 2
-  reads : sumOf readsIn (others (x ∷ [])) ≤ 2
-  writes : sumOf writesIn (others (x ∷ [])) ≤ 2
-  swaps : sumOf swappedIn (others (x ∷ [])) ≤ 2
-
-at-most : (f : Answered → ℕ) (x : Answered) → f x ≤ 2 → sumOf f (others (x ∷ [])) ≤ 2
-unfolding others sumOf
-at-most f x h = go (eqb (x .answer .refusal) 9)
-  where
-    go : (b : Bool) → sumOf f (cond b [] (x ∷ [])) ≤ 2
-    go true = omega arith
-    go false = omega (arith, h)
-
+-- What an answer counts for is at most two, so a sum over answers is at most twice as many.
 bit-most : (b : Bool) → bit b ≤ 2
 bit-most true = omega arith
 bit-most false = omega arith
 
-small : (kind : ℕ) (a : Answer) → Few kind a → Small (answered kind a)
-small kind a f =
-    let x = answered kind a in
-    record {
-      accepted = λ k. at-most (acceptedIn k) x (bit-most (eqb (a .refusal) 0 && eqb kind k));
-      refused = at-most refusedIn x (bit-most (not (eqb (a .refusal) 0)));
-      reads = at-most readsIn x (omega (arith, f .reads));
-      writes = at-most writesIn x (f .writes);
-      swaps = at-most swappedIn x (bit-most (eqb (a .swapped) 1));
-    }
+module _ (f : Answered → ℕ) (most-two : (kind : ℕ) (a : Answer) → Few kind a → f (answered kind a) ≤ 2) where
+  one-most : (s : Shape) (o : Order) (t : Model) (n : Totals) → sumOf f (others (answered (kindOf o) (stepTotals s o t n .answer) ∷ [])) ≤ 2
+  unfolding stepTotals
+  one-most s o t n = go (full n)
+    where
+      go : (b : Bool) → sumOf f (others (answered (kindOf o) (either s o t n b .answer) ∷ [])) ≤ 2
+      go true = omega (arith, nine-counts f (kindOf o))
+      go false =
+          let x = answered (kindOf o) (step s o t .answer) in
+          omega (arith, other-counts f x (never-nine s o t), most-two (kindOf o) (step s o t .answer) (step-few s o t))
 
-small-step : (s : Shape) (o : Order) (t : Model) (n : Totals) → Small (answered (kindOf o) (stepTotals s o t n .answer))
-unfolding stepTotals
-small-step s o t n = go (full n)
-  where
-    go : (b : Bool) → Small (answered (kindOf o) (either s o t n b .answer))
-    go true = small (kindOf o) (refused 9) (record { reads = omega arith; writes = omega arith; swapped = omega arith; kind-counted = λ e. absurd (omega (arith, e)) })
-    go false = small (kindOf o) (step s o t .answer) (step-few s o t)
+  sum-most : (s : Shape) (os : List Order) (t : Model) (n : Totals) → sumOf f (others (answersWith s os t n)) ≤ 2 * length os
+  unfolding answersWith
+  sum-most s [] t n = omega (arith, none-counts f)
+  sum-most s (o ∷ os) t n =
+      let r = stepTotals s o t n in
+      let x = answered (kindOf o) (r .answer) in
+      let xs = answersWith s os (r .after) (r .totals) in
+      omega (arith, others-more f x xs, one-most s o t n, sum-most s os (r .after) (r .totals))
 
-below-step : {n m : Totals} {x : Answered} (c : ℕ) → Adds n m x → Small x → Below c n → Below (c + 2) m
-below-step c u v b = record {
-  accepted = λ k. omega (arith, u .accepted k, v .accepted k, b .accepted k);
-  refused = omega (arith, u .refused, v .refused, b .refused);
-  reads = omega (arith, u .reads, v .reads, b .reads);
-  writes = omega (arith, u .writes, v .writes, b .writes);
-  swaps = omega (arith, u .swaps, v .swaps, b .swaps);
-}
+beyond : (n : Totals) (k : ℕ) → length n ≤ k → totalAt n k ≡ 0
+beyond [] k h = refl
+beyond (v ∷ n) zero h = absurd (omega arith)
+beyond (v ∷ n) (suc k) h = beyond n k (omega arith)
 
-below-run : (s : Shape) (os : List Order) (t : Model) (n : Totals) (c d : ℕ) → length (n .accepted) ≡ kinds → Below c n → d ≡ c + 2 * length os
-    → Below d (totalsWith s os t n)
-unfolding totalsWith
-below-run s [] t n c d l b e = let f : d ≡ c = omega (arith, e) in rw f b
-below-run s (o ∷ os) t n c d l b e =
-    let r = stepTotals s o t n in
-    let u = adds-step s o t n l in
-    below-run s os (r .after) (r .totals) (c + 2) d (u .same ∙ l) (below-step c u (small-step s o t n) b) (omega (arith, e))
-
-pub below-zeros : Below 0 zeros
-unfolding zeros
-below-zeros = record { accepted = zeros-at; refused = omega arith; reads = omega arith; writes = omega arith; swaps = omega arith }
-  where
-    none : (k n : ℕ) → getD (replicate n 0) k 0 ≤ 0
-    none k zero = omega arith
-    none zero (suc n) = omega arith
-    none (suc k) (suc n) = none k n
-
-    zeros-at : (k : ℕ) → getD (replicate kinds 0) k 0 ≤ 0
-    zeros-at k = none k kinds
+far : (k : ℕ) → kinds ≤ k → k ≢ refusedPlace → k ≢ readsPlace → k ≢ writesPlace → k ≢ swapsPlace → places ≤ k
+far k h d₁ d₂ d₃ d₄ = omega arith
 
 pub two-to-an-order : TwoToAnOrder
-two-to-an-order s os t = below-run s os t zeros 0 (2 * length os) zeros-length below-zeros (omega arith)
+two-to-an-order s os t k =
+    let g = grows s os t zeros refl in
+    let e = from-zeros g in
+    elim (ℕ-discrete k refusedPlace) [
+      | yes h ↦ rw (h, e .refused) (sum-most refusedIn (λ kind a _. bit-most (not (eqb (a .refusal) 0))) s os t zeros)
+      | no d₁ ↦ elim (ℕ-discrete k readsPlace) [
+        | yes h ↦ rw (h, e .reads) (sum-most readsIn (λ kind a f. omega (arith, f .reads)) s os t zeros)
+        | no d₂ ↦ elim (ℕ-discrete k writesPlace) [
+          | yes h ↦ rw (h, e .writes) (sum-most writesIn (λ kind a f. f .writes) s os t zeros)
+          | no d₃ ↦ elim (ℕ-discrete k swapsPlace) [
+            | yes h ↦ rw (h, e .swaps) (sum-most swappedIn (λ kind a _. bit-most (eqb (a .swapped) 1)) s os t zeros)
+            | no d₄ ↦ by-bool (ltb k kinds)
+                (λ b. rw (e .accepted k (ltb-true k kinds b))
+                (sum-most (acceptedIn k) (λ kind a _. bit-most (eqb (a .refusal) 0 && eqb kind k)) s os t zeros))
+                (λ b. let h = ltb-false k kinds (not-true _ b) in
+                rw (beyond (totalsWith s os t zeros) k (rw (g .same) (far k h d₁ d₂ d₃ d₄))) (omega arith))
+          ]
+        ]
+      ]
+    ]

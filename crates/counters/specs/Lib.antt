@@ -1,4 +1,4 @@
--- Totals for a run: the counters, runs with them, and the record in bytes.
+-- Totals for a run: their record, the counters that an order touches, and runs with a record.
 pub mod Totals
+pub mod Counters
 pub mod Run
-pub mod Record

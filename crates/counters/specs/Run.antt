@@ -5,7 +5,7 @@ use mathlib.Core.Path.{_≡_}
 use mathlib.Core.Logic.{_≢_}
 use mathlib.Core.Bool.{true, cond, _&&_, not}
 use mathlib.Core.List.{List, [], _∷_}
-use lib.ListN.{getD, length, replicate}
+use lib.ListN.{length}
 use lib.Dec.{eqb}
 use Rattle.words.specs.Bools.{bit}
 use Rattle.model.specs.declared.shape.Shape.{Shape}
@@ -18,12 +18,7 @@ use Rattle.model.specs.Audit.{audit}
 use Rattle.model.specs.Flat.{Flat, flatStep, flatStart}
 use Rattle.model.specs.Agreement.{Agrees}
 use Rattle.model.specs.Marks.{modelRun}
-use Rattle.counters.specs.declared.Totals.{Totals}
-use Rattle.counters.specs.Totals.{stepTotals}
-
--- Totals of zeros.
-unfoldable pub zeros : Totals
-zeros = record { accepted = replicate kinds 0; refused = 0; reads = 0; writes = 0; swaps = 0 }
+use Rattle.counters.specs.Totals.{Totals, refusedPlace, readsPlace, writesPlace, swapsPlace, totalAt, zeros, stepTotals}
 
 -- An answer, and the kind that the word of its order says.
 pub record Answered : Type 0 where
@@ -76,11 +71,11 @@ swappedIn x = bit (eqb (x .answer .swapped) 1)
 
 -- Each total is its sum over a list of answers.
 pub record AreSums (n : Totals) (xs : List Answered) : Type 0 where
-  pub accepted : (k : ℕ) → k < kinds → getD (n .accepted) k 0 ≡ sumOf (acceptedIn k) xs
-  pub refused : n .refused ≡ sumOf refusedIn xs
-  pub reads : n .reads ≡ sumOf readsIn xs
-  pub writes : n .writes ≡ sumOf writesIn xs
-  pub swaps : n .swaps ≡ sumOf swappedIn xs
+  pub accepted : (k : ℕ) → k < kinds → totalAt n k ≡ sumOf (acceptedIn k) xs
+  pub refused : totalAt n refusedPlace ≡ sumOf refusedIn xs
+  pub reads : totalAt n readsPlace ≡ sumOf readsIn xs
+  pub writes : totalAt n writesPlace ≡ sumOf writesIn xs
+  pub swaps : totalAt n swapsPlace ≡ sumOf swappedIn xs
 
 -- Over every list of orders, from any memory and tables, with totals from zeros: each is its sum over the answers other than 9.
 abbrev pub TotalsAreSums : Type 0
@@ -116,14 +111,6 @@ AgreementWithTotals =
     (s : Shape) (t : Model) → lentRefusal s t ≡ 0 → (os : List Order) (n : Totals) → Without9 (answersWith s os (fresh s t) n)
     → AgreesWith s os (fresh s t) n (flatStart (t .memory))
 
--- No total is above c.
-pub record Below (c : ℕ) (n : Totals) : Type 0 where
-  pub accepted : (k : ℕ) → getD (n .accepted) k 0 ≤ c
-  pub refused : n .refused ≤ c
-  pub reads : n .reads ≤ c
-  pub writes : n .writes ≤ c
-  pub swaps : n .swaps ≤ c
-
 -- An order adds at most two to a total.
 abbrev pub TwoToAnOrder : Type 0
-TwoToAnOrder = (s : Shape) (os : List Order) (t : Model) → Below (2 * length os) (totalsWith s os t zeros)
+TwoToAnOrder = (s : Shape) (os : List Order) (t : Model) (k : ℕ) → totalAt (totalsWith s os t zeros) k ≤ 2 * length os

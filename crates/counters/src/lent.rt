@@ -1,74 +1,96 @@
-// The record of totals in the bytes that a host lends, read and stored.
-use crate::Totals;
+// The record of totals in the bytes that a host lends: 64-bit little-endian numbers, and how an order is counted in it.
+use crate::Counters;
+use model::answer::Answer;
 use model::order::KINDS;
 ghost use mathlib.Core.Path.{_≡_};
+ghost use mathlib.Core.Bool.{false};
+ghost use Prim.Native.Nat.{_<_, _≤_};
 ghost use lib.ListN.{length};
-ghost use lib.Seq.{sets};
-ghost use Rattle.endian.specs.Little.{numbers, encoded};
 ghost use Rattle.model.specs.Order.{kinds};
-ghost use Rattle.counters.specs.Record.{recordLength, recordOf, totalsIn};
+ghost use Rattle.counters.specs.Totals.{places, totalAt, high, full, orderPlace, totalsAfter, Few, recordLength, totalsIn};
+ghost use Rattle.counters.specs.Counters.{countersAt, countersPut};
 
-// The bytes of a record: a number of eight for each kind, and four more.
-pub const RECORD_BYTES: usize = 8 * (KINDS + 4);
+// The places of the totals behind those of the kinds, and how many there are.
+const REFUSED: usize = KINDS;
+const READS: usize = KINDS + 1;
+const WRITES: usize = KINDS + 2;
+const SWAPS: usize = KINDS + 3;
+pub const PLACES: usize = KINDS + 4;
 
-// Where the numbers behind those of the kinds stand.
-const REFUSED_AT: usize = 8 * KINDS;
+// The bytes of a record.
+pub const RECORD_BYTES: usize = 8 * PLACES;
 
-const READS_AT: usize = 8 * (KINDS + 1);
+// The highest total to which an order may still be added: 2 to the 64, less 3.
+const MOST: u64 = 18446744073709551613;
 
-const WRITES_AT: usize = 8 * (KINDS + 2);
-
-const SWAPS_AT: usize = 8 * (KINDS + 3);
-
-// The accepted orders of each kind.
-fn accepted_in(lent: &[u8]) -> [u64; KINDS]
-    requires { ⌜ length (now lent) ≡ recordLength ⌝ }
-    ensures { λ r. ⌜ r ≡ numbers 8 kinds (now (lent .entry)) ⌝ }
+// The total at a place.
+pub fn total_at(lent: &[u8], k: usize) -> u64
+    requires { ⌜ (length (now lent) ≡ recordLength) × (k < places) ⌝ }
+    ensures { λ r. ⌜ r ≡ totalAt (totalsIn (now (lent .entry))) k ⌝ }
 {
-    let mut accepted = [0; KINDS];
+    endian::read_eight(lent, 8 * k)
+}
+
+// A total that has no room.
+fn is_high(n: u64) -> bool
+    ensures { λ r. ⌜ r ≡ high n ⌝ }
+{
+    MOST < n
+}
+
+// Some total has no room.
+pub fn is_full(lent: &[u8]) -> bool
+    requires { ⌜ length (now lent) ≡ recordLength ⌝ }
+    ensures { λ r. ⌜ r ≡ full (totalsIn (now (lent .entry))) ⌝ }
+{
+    let mut found = false;
     let mut k = 0;
-    while k < KINDS {
-        accepted[k] = endian::read_eight(lent, 8 * k);
+    while k < PLACES {
+        found = found | is_high(total_at(lent, k));
         k += 1;
     }
-    accepted
+    found
 }
 
-// The totals that a record holds.
-pub fn totals_in(lent: &[u8]) -> Totals
-    requires { ⌜ length (now lent) ≡ recordLength ⌝ }
-    ensures { λ r. ⌜ r ≡ totalsIn (now (lent .entry)) ⌝ }
+// The place under which an order is counted.
+fn order_place(kind: usize, refusal: u64) -> usize
+    ensures { λ r. ⌜ r ≡ orderPlace kind refusal ⌝ }
 {
-    Totals {
-        accepted: accepted_in(lent),
-        refused: endian::read_eight(lent, REFUSED_AT),
-        reads: endian::read_eight(lent, READS_AT),
-        writes: endian::read_eight(lent, WRITES_AT),
-        swaps: endian::read_eight(lent, SWAPS_AT),
+    if refusal == 0 { kind } else { REFUSED }
+}
+
+// The counters of an order that is counted at place k.
+fn counters_at(lent: &[u8], k: usize) -> Counters
+    requires { ⌜ (length (now lent) ≡ recordLength) × (k ≤ kinds) ⌝ }
+    ensures { λ r. ⌜ r ≡ countersAt (totalsIn (now (lent .entry))) k ⌝ }
+{
+    Counters {
+        orders: total_at(lent, k),
+        reads: total_at(lent, READS),
+        writes: total_at(lent, WRITES),
+        swaps: total_at(lent, SWAPS),
     }
 }
 
-// The accepted orders of each kind, stored from the record's start on.
-fn put_accepted(lent: &mut [u8], accepted: [u64; KINDS])
-    requires { ⌜ length (now lent) ≡ recordLength ⌝ }
-    ensures { λ _. ⌜ now (lent .exit) ≡ sets (now (lent .entry)) 0 (encoded 8 accepted) ⌝ }
+// Puts them back.
+fn put_counters(lent: &mut [u8], k: usize, orders: u64, reads: u64, writes: u64, swaps: u64)
+    requires { ⌜ (length (now lent) ≡ recordLength) × (k ≤ kinds) ⌝ }
+    ensures { λ _. ⌜ totalsIn (now (lent .exit)) ≡ countersPut (totalsIn (now (lent .entry))) k
+        (record { orders = orders; reads = reads; writes = writes; swaps = swaps }) ⌝ }
 {
-    let mut k = 0;
-    while k < KINDS {
-        endian::write_eight(lent, 8 * k, accepted[k]);
-        k += 1;
-    }
+    endian::write_eight(lent, 8 * k, orders);
+    endian::write_eight(lent, 8 * READS, reads);
+    endian::write_eight(lent, 8 * WRITES, writes);
+    endian::write_eight(lent, 8 * SWAPS, swaps);
 }
 
-// The totals, stored.
-pub fn put_totals(lent: &mut [u8], t: Totals)
-    requires { ⌜ length (now lent) ≡ recordLength ⌝ }
-    ensures { λ _. ⌜ now (lent .exit) ≡ recordOf t ⌝ }
+// Counts an answer to an order of this kind.
+pub fn count(lent: &mut [u8], kind: usize, a: Answer)
+    requires { ⌜ (length (now lent) ≡ recordLength) × (full (totalsIn (now lent)) ≡ false) ⌝ }
+    requires { ⌜ Few kind a ⌝ }
+    ensures { λ _. ⌜ totalsIn (now (lent .exit)) ≡ totalsAfter (totalsIn (now (lent .entry))) kind a ⌝ }
 {
-    let accepted = t.accepted;
-    put_accepted(lent, accepted);
-    endian::write_eight(lent, REFUSED_AT, t.refused);
-    endian::write_eight(lent, READS_AT, t.reads);
-    endian::write_eight(lent, WRITES_AT, t.writes);
-    endian::write_eight(lent, SWAPS_AT, t.swaps);
+    let k = order_place(kind, a.refusal);
+    let c = crate::updated(counters_at(lent, k), a);
+    put_counters(lent, k, c.orders, c.reads, c.writes, c.swaps);
 }

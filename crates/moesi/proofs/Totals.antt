@@ -10,7 +10,7 @@ use lib.ListN.{getD, length, drop}
 use borrow.Author.Tests.{eq-eqb, ne-eqb, eqb-true, eqb-false, not-true}
 use Rattle.words.proofs.Bools.{Is, and-none, by-bool, by-cond}
 use Rattle.endian.specs.Little.{number, numbers, encoded}
-use Rattle.endian.proofs.Little.{get-numbers, number-at}
+use Rattle.endian.proofs.Little.{number-at, same-bytes}
 use Rattle.ports.specs.Bytes.{Bytes, modelIn}
 use Rattle.model.specs.declared.shape.Shape.{Shape}
 use Rattle.model.specs.declared.answer.Answer.{Answer}
@@ -18,13 +18,11 @@ use Rattle.model.specs.Shape.{inRange}
 use Rattle.model.specs.Order.{Order, kindOf}
 use Rattle.model.specs.Step.{Result, accepted, refused, step}
 use Rattle.model.proofs.Claims.{refused-changes-nothing, never-nine}
-use Rattle.counters.specs.declared.Totals.{Totals}
-use Rattle.counters.specs.Totals.{full, totalsAfter, Few, stepTotals}
-use Rattle.counters.specs.Record.{recordLength, recordOf, totalsIn}
+use Rattle.counters.specs.Totals.{Totals, places, full, totalsAfter, Few, stepTotals, recordLength, totalsIn, recordOf}
 use Rattle.counters.proofs.Answers.{step-few, refused-few}
 use Rattle.moesi.specs.Host.{inBytes, bytesFit, refusalBy, hostRefusal, answerBytes, Hosted, hosted, hostStep}
 use Rattle.moesi.specs.Totals.{isRecord, recordRefusal, recordRefused, HostedTotals, withRecord, refusalPut, countsIn, hostStepTotals}
-use Rattle.moesi.proofs.Host.{out-fits}
+use Rattle.moesi.proofs.Host.{out-fits, AreBytes}
 
 and-all : (x : Bool) → (x && true) ≡ x
 and-all true = refl
@@ -155,10 +153,10 @@ module _ (s : Shape) (o : Order) (b : Bytes) (out : List ℕ) where
         rw (eo, ne-eqb (length bs) recordLength h, and-none wide, ← en, ne-eqb n 0 z)
 
     -- A total has no room: refusal 9, and nothing else is looked at.
-    pub record-full : length bs ≡ recordLength → {t : Totals} → t ≡ totalsIn bs → full t ≡ true → {out' : List ℕ} → out' ≡ refusalPut 9 out
+    pub record-full : length bs ≡ recordLength → full (totalsIn bs) ≡ true → {out' : List ℕ} → out' ≡ refusalPut 9 out
         → withRecord (hosted 9 b out') bs ≡ hostStepTotals s o b out bs
     unfolding hostStepTotals recordRefusal recordRefused
-    record-full h et f eo = let g : full (totalsIn bs) ≡ true = rw et at f in rw (eo, eq-eqb (length bs) recordLength h, g)
+    record-full h f eo = rw (eo, eq-eqb (length bs) recordLength h, f)
 
     -- Else the call is that without a record, and it is counted.
     call-counted : isRecord bs ≡ true → full (totalsIn bs) ≡ false
@@ -169,12 +167,13 @@ module _ (s : Shape) (o : Order) (b : Bytes) (out : List ℕ) where
         (λ z. rw (h, f, and-all wide, z))
         (λ z. rw (h, f, and-all wide, not-true (eqb refusal 0) z, ne-eqb refusal 9 not-nine))
 
-    pub record-counted : length bs ≡ recordLength → {t : Totals} → t ≡ totalsIn bs → full t ≡ false → {k : ℕ} → k ≡ kindOf o
+    pub record-counted : length bs ≡ recordLength → full (totalsIn bs) ≡ false → {k : ℕ} → k ≡ kindOf o
         → {n : ℕ} {b' : Bytes} {out' : List ℕ} → hosted n b' out' ≡ hostStep s o b out → {a : Answer} → a ≡ countsIn n out'
-        → {m : Totals} → m ≡ totalsAfter t k a → {bs' : List ℕ} → bs' ≡ recordOf m
+        → {bs' : List ℕ} → totalsIn bs' ≡ totalsAfter (totalsIn bs) k a → length bs' ≡ length bs → AreBytes bs'
         → withRecord (hosted n b' out') bs' ≡ hostStepTotals s o b out bs
-    record-counted h et f ek e ea em eb =
-        let g : full (totalsIn bs) ≡ false = rw et at f in
-        rw (eb, em, et, ek, ea, call-told e, same-counted (totalsIn bs) (kindOf o) stepAnswer)
-        (ap (λ (x : Hosted). withRecord x (recordOf (totalsAfter (totalsIn bs) (kindOf o) stepAnswer))) e
-        ∙ call-counted (eq-eqb (length bs) recordLength h) g)
+    record-counted h f ek e ea {bs'} em el eb =
+        let told : totalsIn bs' ≡ totalsAfter (totalsIn bs) (kindOf o) stepAnswer
+            = em ∙ rw (ek, ea, call-told e, same-counted (totalsIn bs) (kindOf o) stepAnswer) in
+        ap (withRecord _) (sym (same-bytes 8 places bs' eb (el ∙ h)) ∙ ap (encoded 8) told)
+        ∙ ap (λ (x : Hosted). withRecord x (recordOf (totalsAfter (totalsIn bs) (kindOf o) stepAnswer))) e
+        ∙ call-counted (eq-eqb (length bs) recordLength h) f

@@ -11,8 +11,7 @@ use Rattle.model.specs.declared.shape.Shape.{Shape}
 use Rattle.model.specs.declared.answer.Answer.{Answer}
 use Rattle.model.specs.Order.{Order, kindOf}
 use Rattle.model.specs.Step.{accepted, refused}
-use Rattle.counters.specs.Totals.{full, totalsAfter, stepTotals}
-use Rattle.counters.specs.Record.{recordLength, recordOf, totalsIn}
+use Rattle.counters.specs.Totals.{full, totalsAfter, stepTotals, recordLength, totalsIn, recordOf}
 use Rattle.counters.specs.Run.{Answered, answered, others, AreSums}
 use Rattle.moesi.specs.Host.{inBytes, hostRefusal, answerBytes, Hosted, hosted}
 

@@ -159,8 +159,7 @@ pub extern "C" fn moesi_step_totals(
         put_refusal(answer, n);
         return n;
     }
-    let t = lent::totals_in(totals);
-    if counters::is_full(t) {
+    if lent::is_full(totals) {
         put_refusal(answer, 9);
         return 9;
     }
@@ -177,7 +176,7 @@ pub extern "C" fn moesi_step_totals(
         answer,
     );
     let a = counts_in(n, answer);
-    lent::put_totals(totals, counters::updated(t, decode::kind_of(word), a));
+    lent::count(totals, decode::kind_of(word), a);
     n
 }
 

@@ -1,5 +1,5 @@
--- `bring_up_to_date` meets its contract: a walk of its MIR, by hand. The borrow is opened, the record behind it is copied into a local and
--- passed to `added`, what `added` returns is stored over the record, and the borrow is closed at it. All that the walk knows of `added` is
+-- `bring_up_to_date` meets its contract: a walk of its MIR, by hand. The borrow is opened, what is behind it is copied into a local and
+-- passed to `added`, what `added` returns is stored over it, and the borrow is closed at it. All that the walk knows of `added` is
 -- that it meets its contract, and of the two structs their laws: it names no field of either.
 -- Assumes nothing.
 use mathlib.Core.Path.{_≡_, refl}
@@ -43,10 +43,10 @@ use denote.Exit.{yes}
 use Rattle.model.specs.declared.answer.Answer.{Answer}
 use Rattle.model.proofs.answer.Answer as An
 use Rattle.model.proofs.answer.Answer.Laws as An′
-use Rattle.counters.specs.declared.Totals.{Totals}
-use Rattle.counters.specs.Totals.{full, Few, totalsAfter}
-use Rattle.counters.proofs.Totals as T
-use Rattle.counters.proofs.Totals.Laws as T′
+use Rattle.counters.specs.declared.Counters.{Counters}
+use Rattle.counters.specs.Counters.{countersAfter, Room}
+use Rattle.counters.proofs.Counters as T
+use Rattle.counters.proofs.Counters.Laws as T′
 use Rattle.counters.proofs.added as added
 use Rattle.counters.proofs.added.Symbol as added-def
 use Rattle.counters.proofs.added.Symbol.{name as #counters·added}
@@ -57,13 +57,13 @@ use Rattle.counters.proofs.bring_up_to_date.Statement as stated
 use Rattle.counters.proofs.bring_up_to_date.Code as code
 
 abbrev Arg : Type 0
-Arg = RefT Totals × (ℕ × (Answer × Unit {0}))
+Arg = RefT Counters × (Answer × Unit {0})
 
 abbrev stayed : Stays (bring.ended .signature .params) (bring.ended .kept)
-stayed = (stay-ref (0 ∷ []) tt (plain (λ _. T.the-row)), (stay-none (λ _. usize) yes, (stay-none (λ _. An.the-row) yes, tt)))
+stayed = (stay-ref (0 ∷ []) tt (plain (λ _. T.the-row)), (stay-none (λ _. An.the-row) yes, tt))
 
--- the machine values of a record of totals, and of an answer
-abbrev vals : Totals → List Val
+-- the machine values of counters, and of an answer
+abbrev vals : Counters → List Val
 vals = LL.vals T.the-type T′.the-laws
 
 abbrev answer-vals : Answer → List Val
@@ -74,73 +74,73 @@ module _ {M : Type 1} (𝓤 : URA M) (H : Heap 𝓤) (A : Atoms 𝓤) (at-mem : 
   abbrev Added : Contract 𝓤
   Added = tripleOf 𝓤 H A added.signature (added.spec 𝓤 H A at-mem run)
 
-  added-of : (h : Totals) (k : ℕ) (a : Answer) (r : Totals) → ent 𝓤 (ensured 𝓤 H A added.ended (added.clauses 𝓤 H A at-mem run) tt (h, (k, (a, tt))) tt r) (fact 𝓤 (r ≡ totalsAfter h k a))
-  added-of h k a r = exE 𝓤 _ (λ ws. snd∗ 𝓤 (sem 𝓤 H A (lasts added.ended tt (h, (k, (a, tt))) ws)) (fact 𝓤 (r ≡ totalsAfter h k a)))
+  added-of : (h : Counters) (a : Answer) (r : Counters) → ent 𝓤 (ensured 𝓤 H A added.ended (added.clauses 𝓤 H A at-mem run) tt (h, (a, tt)) tt r) (fact 𝓤 (r ≡ countersAfter h a))
+  added-of h a r = exE 𝓤 _ (λ ws. snd∗ 𝓤 (sem 𝓤 H A (lasts added.ended tt (h, (a, tt)) ws)) (fact 𝓤 (r ≡ countersAfter h a)))
 
-module _ {M : Type 1} (𝓤 : URA M) (H : Heap 𝓤) (A : Atoms 𝓤) (W : Given 𝓤 H A) (at-mem : Memory → SProp 𝓤) (run : Routine → Fun 𝓤) (κ : Lft) (q : Share) (b o : ℕ) (γ : GName) (h : Totals) (k : ℕ) (a : Answer)
-    (k-fits : k < 2 ^ 64) (a-is : Is An.the-row a (answer-vals a)) where
+module _ {M : Type 1} (𝓤 : URA M) (H : Heap 𝓤) (A : Atoms 𝓤) (W : Given 𝓤 H A) (at-mem : Memory → SProp 𝓤) (run : Routine → Fun 𝓤) (κ : Lft) (q : Share) (b o : ℕ) (γ : GName) (h : Counters) (a : Answer)
+    (a-is : Is An.the-row a (answer-vals a)) where
   abbrev x : Arg
-  x = (record { ptr = (b, o); name = γ; now = h }, (k, (a, tt)))
+  x = (record { ptr = (b, o); name = γ; now = h }, (a, tt))
 
-  abbrev at : List Val × (List Val × (List Val × Unit {0}))
-  at = (vptr b o ∷ [], (vint w64 k ∷ [], (answer-vals a, tt)))
+  abbrev at : List Val × (List Val × Unit {0})
+  at = (vptr b o ∷ [], (answer-vals a, tt))
 
   abbrev Post : Val → SProp 𝓤
   Post = walkOf 𝓤 H A bring.ended stayed (bring.clauses 𝓤 H A at-mem run) .post (((κ, tt), (q, tt), tt, x, at), tt)
 
-  exits : (r : Totals) → r ≡ totalsAfter h k a → ent 𝓤 (sep 𝓤 (A .obs γ (T.the-row .coded .code r)) (sep 𝓤 (A .bor κ (Body (mem T.the-row) b o γ)) (A .lft κ q))) (Post vunit)
+  exits : (r : Counters) → r ≡ countersAfter h a → ent 𝓤 (sep 𝓤 (A .obs γ (T.the-row .coded .code r)) (sep 𝓤 (A .bor κ (Body (mem T.the-row) b o γ)) (A .lft κ q))) (Post vunit)
   exits r e =
       qed W (‵ (fobs γ (T.the-row .coded .code r)) ∷ ‵ (fbor κ (Body (mem T.the-row) b o γ)) ∷ ‵ (flft κ q) ∷ []) ∵
-      suffices ! _ (ends-at 𝓤 H A bring.ended stayed (bring.clauses 𝓤 H A at-mem run) W (((κ, tt), (q, tt), tt, x, at), tt) vunit tt (r, (tt, (tt, tt))) (tt, (tt, (tt, tt)))) $ says ! e $ nothing ! $ move ! (3 ∷ 0 ∷ []) $ join ! $
+      suffices ! _ (ends-at 𝓤 H A bring.ended stayed (bring.clauses 𝓤 H A at-mem run) W (((κ, tt), (q, tt), tt, x, at), tt) vunit tt (r, (tt, tt)) (tt, (tt, tt))) $ says ! e $ nothing ! $ move ! (3 ∷ 0 ∷ []) $ join ! $
       frame ! $ feqI ! (List Val) (vptr b o ∷ []) (vptr b o ∷ []) refl $ fjoin3 ! $ nothing ! $
-      owned ! An.the-row (Is An.the-row) (LL.makes An.the-type An′.the-plain 𝓤 H A) a _ a-is $ fjoin ! $ owned ! usize (Is usize) (uint-makes 𝓤 H A W w64) k _ (refl, k-fits) $ fjoin ! $ move ! (1 ∷ 0 ∷ []) $ fjoin ! $
+      owned ! An.the-row (Is An.the-row) (LL.makes An.the-type An′.the-plain 𝓤 H A) a _ a-is $ fjoin ! $ move ! (1 ∷ 0 ∷ []) $ fjoin ! $
       feqI ! (List Val) (vunit ∷ []) (vunit ∷ []) refl $ move ! (1 ∷ 0 ∷ []) $ done !
 
   -- what `added`'s triple binds outside, and what it asks: facts alone
   abbrev to-added : Added 𝓤 H A at-mem run .Ghost
-  to-added = ((tt, tt, tt, (h, (k, (a, tt))), (vals h, (vint w64 k ∷ [], (answer-vals a, tt)))), tt)
+  to-added = ((tt, tt, tt, (h, (a, tt)), (vals h, (answer-vals a, tt))), tt)
 
-  goes : (full h ≡ false) × Few k a → Is T.the-row h (vals h) → ent 𝓤 (emp 𝓤) (Added 𝓤 H A at-mem run .pre to-added)
+  goes : Room h a → Is T.the-row h (vals h) → ent 𝓤 (emp 𝓤) (Added 𝓤 H A at-mem run .pre to-added)
   goes few h-is =
       qed W [] ∵ says ! few $ nothing ! $ frame ! $ nothing ! $
-      owned ! An.the-row (Is An.the-row) (LL.makes An.the-type An′.the-plain 𝓤 H A) a _ a-is $ fjoin ! $ owned ! usize (Is usize) (uint-makes 𝓤 H A W w64) k _ (refl, k-fits) $ fjoin ! $
+      owned ! An.the-row (Is An.the-row) (LL.makes An.the-type An′.the-plain 𝓤 H A) a _ a-is $ fjoin ! $
       owned ! T.the-row (Is T.the-row) (LL.makes T.the-type T′.the-plain 𝓤 H A) h _ h-is $ fjoin ! $ done !
 
   module _ (C : Calls 𝓤 H) (Λ : Loops 𝓤 H) (fm : FmC 𝓤 H (W .laws) C) (known : Triple 𝓤 (C #counters·added) (Added 𝓤 H A at-mem run)) where
-    walk : (full h ≡ false) × Few k a → ent 𝓤 (onEntry 𝓤 H A bring.signature (κ, tt) (q, tt) x at) (WpFn 𝓤 H C Λ code.function (vptr b o ∷ vint w64 k ∷ answer-vals a) Post)
+    walk : Room h a → ent 𝓤 (onEntry 𝓤 H A bring.signature (κ, tt) (q, tt) x at) (WpFn 𝓤 H C Λ code.function (vptr b o ∷ answer-vals a) Post)
     walk few =
-        qed W ((‵ (flft κ q) ⊛ ‵ ftrue) ∷ ‵ (owns (MutRef (named 0) κ T.the-row ∷ usize ∷ An.the-row ∷ []) x at) ∷ []) ∵ split ! $ move ! (2 ∷ []) $ fsplit ! $ fsplit3 ! $ drop ! $ move ! (0 ∷ 1 ∷ 3 ∷ []) $
-        -- [obs; the borrow; the token; what kind and a own; true]
-        enter ! C Λ code.function (vptr b o ∷ vint w64 k ∷ answer-vals a) _ $
-        alloc1 ! (λ l₀. alloc1 ! (λ l₁. alloc1 ! (λ l₂. alloc1 ! (λ l₃. alloc1 ! (λ l₄. alloc1 ! (λ l₅. alloc0 ! $ params1 ! $
-        pass1 ! (init ! 8 refl (tt, tt)) $ pass1 ! (init ! 6 refl (tt, record { fits = k-fits })) $ pass1 ! (init ! 4 refl (LL.lawful An.the-type An′.the-laws 𝓤 H A W .typed a _ a-is .0)) $ pass0 ! $
+        qed W ((‵ (flft κ q) ⊛ ‵ ftrue) ∷ ‵ (owns (MutRef (named 0) κ T.the-row ∷ An.the-row ∷ []) x at) ∷ []) ∵ split ! $ move ! (2 ∷ []) $ fsplit ! $ fsplit3 ! $ drop ! $ move ! (0 ∷ 1 ∷ 3 ∷ []) $
+        -- [obs; the borrow; the token; what a owns; true]
+        enter ! C Λ code.function (vptr b o ∷ answer-vals a) _ $
+        alloc1 ! (λ l₀. alloc1 ! (λ l₁. alloc1 ! (λ l₂. alloc1 ! (λ l₃. alloc1 ! (λ l₄. alloc0 ! $ params1 ! $
+        pass1 ! (init ! 6 refl (tt, tt)) $ pass1 ! (init ! 4 refl (LL.lawful An.the-type An′.the-laws 𝓤 H A W .typed a _ a-is .0)) $ pass0 ! $
         -- the borrow is opened
-        move ! (12 ∷ 13 ∷ 14 ∷ []) $ opens ! tt T.the-row {h = h} b o (λ vs. spelt ! T.the-row (Is T.the-row) (shows 𝓤 H A T.the-row) vals (LL.tells T.the-type T′.the-laws) fullShare h vs b o $
+        move ! (10 ∷ 11 ∷ 12 ∷ []) $ opens ! tt T.the-row {h = h} b o (λ vs. spelt ! T.the-row (Is T.the-row) (shows 𝓤 H A T.the-row) vals (LL.tells T.the-type T′.the-laws) fullShare h vs b o $
         move ! (1 ∷ []) $ peeks ! T.the-row (Is T.the-row) (shows 𝓤 H A T.the-row) h (vals h) (λ is. move ! (1 ∷ 0 ∷ []) $
-        -- [the record's cell; what a Totals owns; the open borrow; obs; auth; room for _5; …; room for _4; …; _3; …; _2; …; _1; …; room for _0; …]
-        assigns ! (of-opd ! (load ! (from ! (hop ! (look ! 13 refl) (stop !))) (look-raw ! 0 refl))) (from ! (stop !)) (init ! 5 refl (LL.lawful T.the-type T′.the-laws 𝓤 H A W .typed h _ is .0)) $
+        -- [the cell of the counters; what they own; the open borrow; obs; auth; room for _4; …; room for _3; …; _2; …; _1; …; room for _0; …]
+        assigns ! (of-opd ! (load ! (from ! (hop ! (look ! 11 refl) (stop !))) (look-raw ! 0 refl))) (from ! (stop !)) (init ! 5 refl (LL.lawful T.the-type T′.the-laws 𝓤 H A W .typed h _ is .0)) $
         use0 W (raw (Added 𝓤 H A at-mem run .pre to-added)) (goes few is) $
-        calls-at ! fm (Added 𝓤 H A at-mem run) known to-added (and-then ! (load ! (from ! (stop !)) (look ! 6 refl)) (and-then ! (load ! (from ! (stop !)) (look ! 12 refl)) (and-then ! (load ! (from ! (stop !)) (look ! 10 refl)) (no-more !)))) (λ w.
-        use1 W (later (some (λ (r : Totals). (‵ ftrue ⊛ ‵ (T.the-row .own r (w ∷ []))) ⊛ raw (ensured 𝓤 H A added.ended (added.clauses 𝓤 H A at-mem run) tt (h, (k, (a, tt))) tt r)))) (id⊢ 𝓤 _) $ await ! tt $ pick ! (λ r.
-        split ! $ move ! (1 ∷ []) $ use1 W (raw (fact 𝓤 (r ≡ totalsAfter h k a))) (added-of 𝓤 H A at-mem run h k a r) $ heard ! (r ≡ totalsAfter h k a) (λ e. split ! $ drop ! $
+        calls-at ! fm (Added 𝓤 H A at-mem run) known to-added (and-then ! (load ! (from ! (stop !)) (look ! 6 refl)) (and-then ! (load ! (from ! (stop !)) (look ! 10 refl)) (no-more !))) (λ w.
+        use1 W (later (some (λ (r : Counters). (‵ ftrue ⊛ ‵ (T.the-row .own r (w ∷ []))) ⊛ raw (ensured 𝓤 H A added.ended (added.clauses 𝓤 H A at-mem run) tt (h, (a, tt)) tt r)))) (id⊢ 𝓤 _) $ await ! tt $ pick ! (λ r.
+        split ! $ move ! (1 ∷ []) $ use1 W (raw (fact 𝓤 (r ≡ countersAfter h a))) (added-of 𝓤 H A at-mem run h a r) $ heard ! (r ≡ countersAfter h a) (λ e. split ! $ drop ! $
         peeks ! T.the-row (Is T.the-row) (shows 𝓤 H A T.the-row) r (w ∷ []) (λ r-is.
-        -- [what the new Totals owns; the record's cell; what the old one owns; the open borrow; obs; auth; _5; …; room for _4; …; _3; …; _2; …; _1; …; room for _0; …]
+        -- [what the new counters own; the cell; what the old ones own; the open borrow; obs; auth; _4; …; room for _3; …; _2; …; _1; …; room for _0; …]
         land ! (from ! (stop !)) (init ! 8 refl (LL.lawful T.the-type T′.the-laws 𝓤 H A W .typed r _ r-is .0)) $
-        assigns ! (of-opd ! (load ! (from ! (stop !)) (look ! 8 refl))) (from ! (hop ! (look ! 14 refl) (stop !))) (store-raw ! 1 refl (LL.lawful T.the-type T′.the-laws 𝓤 H A W .typed r _ r-is .0)) $
-        assigns ! (of-opd ! (unit-lit !)) (from ! (stop !)) (init ! 16 refl (tt, tt)) $
-        -- the borrow is closed at the new record
+        assigns ! (of-opd ! (load ! (from ! (stop !)) (look ! 8 refl))) (from ! (hop ! (look ! 12 refl) (stop !))) (store-raw ! 1 refl (LL.lawful T.the-type T′.the-laws 𝓤 H A W .typed r _ r-is .0)) $
+        assigns ! (of-opd ! (unit-lit !)) (from ! (stop !)) (init ! 14 refl (tt, tt)) $
+        -- the borrow is closed at the new counters
         move ! (2 ∷ []) $ drop ! $ move ! (1 ∷ 0 ∷ []) $ closes ! tt T.the-row r (w ∷ []) b o $
-        returns ! (look ! 13 refl) $ forget ! 3 refl $ forget ! 5 refl $ forget ! 7 refl $ forget ! 9 refl $ forget ! 11 refl $ forget ! 13 refl $
-        move ! (13 ∷ 14 ∷ []) $ free1 ! $ move ! (11 ∷ 12 ∷ []) $ free1 ! $ move ! (9 ∷ 10 ∷ []) $ free1 ! $ move ! (7 ∷ 8 ∷ []) $ free1 ! $ move ! (5 ∷ 6 ∷ []) $ free1 ! $ move ! (3 ∷ 4 ∷ []) $ free1 ! $ free0 ! $
-        keep ! (0 ∷ 1 ∷ 2 ∷ []) $ by ! (exits r e)))))))))))))
+        returns ! (look ! 11 refl) $ forget ! 3 refl $ forget ! 5 refl $ forget ! 7 refl $ forget ! 9 refl $ forget ! 11 refl $
+        move ! (11 ∷ 12 ∷ []) $ free1 ! $ move ! (9 ∷ 10 ∷ []) $ free1 ! $ move ! (7 ∷ 8 ∷ []) $ free1 ! $ move ! (5 ∷ 6 ∷ []) $ free1 ! $ move ! (3 ∷ 4 ∷ []) $ free1 ! $ free0 ! $
+        keep ! (0 ∷ 1 ∷ 2 ∷ []) $ by ! (exits r e))))))))))))
 
 module _ {M : Type 1} (𝓤 : URA M) (H : Heap 𝓤) (A : Atoms 𝓤) (W : Given 𝓤 H A) (at-mem : Memory → SProp 𝓤) (run : Routine → Fun 𝓤) where
   bring-walks : (C : Calls 𝓤 H) (Λ : Loops 𝓤 H) → FmC 𝓤 H (W .laws) C → Triple 𝓤 (C #counters·added) (Added 𝓤 H A at-mem run) → Walks 𝓤 H A bring.ended stayed (WpFn 𝓤 H C Λ code.function) (bring.clauses 𝓤 H A at-mem run)
-  bring-walks C Λ fm known = walked 𝓤 H A bring.ended stayed (bring.clauses 𝓤 H A at-mem run) (WpFn 𝓤 H C Λ code.function) (λ κs. (ptr-vals, (uint-vals w64, (answer-vals, tt)))) (λ κs. (mut-tells (named 0) (κs .0) T.the-row, (uint-tells w64, (LL.tells An.the-type An′.the-laws, tt))))
-      (λ κs qs bounds y _ are. needs 𝓤 _ _ (walk 𝓤 H A W at-mem run (κs .0) (qs .0) (y .0 .ptr .0) (y .0 .ptr .1) (y .0 .name) (y .0 .now) (y .1 .0) (y .1 .1 .0) (are .1 .0 .1) (are .1 .1 .0) C Λ fm known))
+  bring-walks C Λ fm known = walked 𝓤 H A bring.ended stayed (bring.clauses 𝓤 H A at-mem run) (WpFn 𝓤 H C Λ code.function) (λ κs. (ptr-vals, (answer-vals, tt))) (λ κs. (mut-tells (named 0) (κs .0) T.the-row, (LL.tells An.the-type An′.the-laws, tt)))
+      (λ κs qs bounds y _ are. needs 𝓤 _ _ (walk 𝓤 H A W at-mem run (κs .0) (qs .0) (y .0 .ptr .0) (y .0 .ptr .1) (y .0 .name) (y .0 .now) (y .1 .0) (are .1 .0) C Λ fm known))
 
   goes-all : AllGo 𝓤 H A W 1 (bring.signature .params) (bring.ended .kept) stayed
-  goes-all = (goes-ref 𝓤 H A W 1 0 tt (plain (λ _. T.the-row)), (goes-none 𝓤 H A W 1 (λ _. usize) yes (λ κs x f. refl), (goes-none 𝓤 H A W 1 (λ _. An.the-row) yes (λ κs x f. refl), tt)))
+  goes-all = (goes-ref 𝓤 H A W 1 0 tt (plain (λ _. T.the-row)), (goes-none 𝓤 H A W 1 (λ _. An.the-row) yes (λ κs x f. refl), tt))
 
 bring-meets : {M : Type 1} (𝓤 : URA M) (H : Heap 𝓤) (A : Atoms 𝓤) → Given 𝓤 H A → (at-mem : Memory → SProp 𝓤) (run : Routine → Fun 𝓤) (𝓣 : Tables 𝓤 H) → Triple 𝓤 (𝓣 .C #counters·added) (Added 𝓤 H A at-mem run)
     → Meets 𝓤 H A bring.signature (WpFn 𝓤 H (𝓣 .C) (𝓣 .Λ) code.function) (bring.spec 𝓤 H A at-mem run)

@@ -1,12 +1,12 @@
 -- The one comparison. Assumes nothing.
-use borrow.Author.Needs.{needs}
+use mathlib.Core.Path.{refl}
 use Rattle.counters.specs.Totals.{high}
-use Rattle.counters.proofs.is_high.Statement.{statement}
-use Rattle.counters.proofs.is_high.Tie as tie
+use Rattle.counters.proofs.lent.is_high.Statement.{statement}
+use Rattle.counters.proofs.lent.is_high.Tie as tie
 
 returns : tie.Need-returns
 unfolding high
-returns c = search needs
+returns c = refl
 
 pub is-high-spec : {M : Type 1} → statement M
 is-high-spec = tie.close (tie.spec returns)
