@@ -118,7 +118,7 @@ module _ (n : Totals) (kind : ℕ) (a : Answer) (l : length n ≡ places) (few :
       let e₄ = plus-at n₃ swapsPlace (a .swapped) j (omega (arith, l₃)) in
       rw (e₄, e₃, e₂, e₁)
 
-  after-length : length (totalsAfter n kind a) ≡ length n
+  pub after-length : length (totalsAfter n kind a) ≡ length n
   unfolding totalsAfter
   after-length =
       let n₁ = plus own 1 n in
@@ -143,6 +143,29 @@ module _ (n : Totals) (kind : ℕ) (a : Answer) (l : length n ≡ places) (few :
 
   own-elsewhere : (j : ℕ) → kinds < j → _≡_ {A = ℕ} (cond (eqb own j) 1 0) 0
   own-elsewhere j h = rw (ne-eqb own j (λ e. omega (arith, e, h, own-low))) refl
+
+  -- No total grows by more than two.
+  pub after-most : (k : ℕ) → totalAt (totalsAfter n kind a) k ≤ totalAt n k + 2
+  after-most k =
+      elim (ℕ-discrete k readsPlace) [
+        | yes e ↦ rw e (omega (arith, after-at readsPlace, own-elsewhere readsPlace (omega arith), few .reads))
+        | no d₁ ↦ elim (ℕ-discrete k writesPlace) [
+          | yes e ↦ rw e (omega (arith, after-at writesPlace, own-elsewhere writesPlace (omega arith), few .writes))
+          | no d₂ ↦ elim (ℕ-discrete k swapsPlace) [
+            | yes e ↦ rw e (omega (arith, after-at swapsPlace, own-elsewhere swapsPlace (omega arith), few .swapped))
+            | no d₃ ↦ rw (
+                after-at k,
+                ne-eqb readsPlace k (λ e. d₁ (sym e)),
+                ne-eqb writesPlace k (λ e. d₂ (sym e)),
+                ne-eqb swapsPlace k (λ e. d₃ (sym e)),
+              ) (omega (arith, one-most (eqb own k)))
+          ]
+        ]
+      ]
+    where
+      one-most : (b : Bool) → cond b 1 0 ≤ 1
+      one-most true = omega arith
+      one-most false = omega arith
 
   -- An answer other than 9 is counted.
   pub adds-answer : a .refusal ≢ 9 → Adds n (totalsAfter n kind a) (answered kind a)
@@ -293,7 +316,7 @@ module _ (f : Answered → ℕ) (most-two : (kind : ℕ) (a : Answer) → Few ki
       let xs = answersWith s os (r .after) (r .totals) in
       omega (arith, others-more f x xs, one-most s o t n, sum-most s os (r .after) (r .totals))
 
-beyond : (n : Totals) (k : ℕ) → length n ≤ k → totalAt n k ≡ 0
+pub beyond : (n : Totals) (k : ℕ) → length n ≤ k → totalAt n k ≡ 0
 beyond [] k h = refl
 beyond (v ∷ n) zero h = absurd (omega arith)
 beyond (v ∷ n) (suc k) h = beyond n k (omega arith)

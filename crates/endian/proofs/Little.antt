@@ -4,7 +4,7 @@ use mathlib.Core.Path.{_≡_, refl, ap, sym, _∙_}
 use mathlib.Core.List.{List, [], _∷_, _++_}
 use native.Mathlib.Omega.{arith}
 use native.Mathlib.Nat.{add-zero, zero-add, suc-add, add-comm, mul-zero, mul-suc}
-use lib.ListN.{getD, set, length, take, drop, take-append-drop, length-drop}
+use lib.ListN.{getD, set, length, take, drop, take-append-drop, length-append, length-drop}
 use lib.Pow.{pow-add}
 use lib.Seq.{getD-drop, drop-drop, sets}
 use Rattle.endian.specs.Little.{number, bytesOf, numbers, encoded}
@@ -177,11 +177,24 @@ number-at w (x ∷ xs) zero h = rw (mul-zero w) (read-back w x (encoded w xs) h)
 number-at w (x ∷ xs) (suc k) h =
     rw (mul-suc w k, add-comm (w * k) w, ← drop-drop (w * k) w (bytesOf w x ++ encoded w xs), behind-read w x (encoded w xs)) (number-at w xs k h)
 
+-- All of them.
 pub numbers-back : (w : ℕ) (xs : List ℕ) → ((k : ℕ) → getD xs k 0 < 256 ^ w) → numbers w (length xs) (encoded w xs) ≡ xs
 unfolding numbers encoded
 numbers-back w [] h = refl
 numbers-back w (x ∷ xs) h =
     rw (read-back w x (encoded w xs) (h 0), behind-read w x (encoded w xs), numbers-back w xs (λ k. h (suc k)))
+
+length-bytes : (w x : ℕ) → length (bytesOf w x) ≡ w
+unfolding bytesOf
+length-bytes zero x = refl
+length-bytes (suc w) x = ap suc (length-bytes w (x / 256))
+
+pub length-encoded : (w : ℕ) (xs : List ℕ) → length (encoded w xs) ≡ w * length xs
+unfolding encoded
+length-encoded w [] = sym (mul-zero w)
+length-encoded w (x ∷ xs) =
+    length-append (bytesOf w x) (encoded w xs)
+    ∙ let a = length-bytes w x in let b = length-encoded w xs in let c = mul-suc w (length xs) in omega (arith, a, b, c)
 
 -- A number of w bytes is below 256 ^ w.
 pub number-fits : (w : ℕ) (bs : List ℕ) → ((k : ℕ) → getD bs k 0 < 256) → number w bs < 256 ^ w

@@ -1,3 +1,4 @@
 -- What the proofs of this crate cite.
 pub mod Host
 pub mod Totals
+pub mod Records

@@ -24,7 +24,7 @@ use Rattle.moesi.specs.Host.{inBytes, bytesFit, refusalBy, hostRefusal, 
 use Rattle.moesi.specs.Totals.{isRecord, recordRefusal, recordRefused, HostedTotals, withRecord, refusalPut, countsIn, hostStepTotals}
 use Rattle.moesi.proofs.Host.{out-fits, AreBytes}
 
-and-all : (x : Bool) → (x && true) ≡ x
+pub and-all : (x : Bool) → (x && true) ≡ x
 and-all true = refl
 and-all false = refl
 
@@ -75,22 +75,25 @@ some-refusal s memory tags states words =
     by-cond (λ n. n ≢ 0) (inRange s) _ _ (λ _. rw (and-none (bytesFit s memory tags states words)) (λ e. omega (arith, e))) (λ _ e. omega (arith, e))
 
 module _ (s : Shape) (o : Order) (b : Bytes) (out : List ℕ) where
-  abbrev wide : Bool
+  abbrev pub wide : Bool
   wide = eqb (length out) 40
 
-  abbrev refusal : ℕ
+  abbrev pub refusal : ℕ
   refusal = hostRefusal s b wide
 
   not-nine : refusal ≢ 9
   not-nine e = omega (arith, e, low s (length (b .memory)) (length (b .tags)) (length (b .states)) (length (b .words)) wide)
 
   -- The answer of a call without a record, also where it is not written.
-  abbrev stepAnswer : Answer
+  abbrev pub stepAnswer : Answer
   stepAnswer = cond (eqb refusal 0) (step s o (modelIn s b) .answer) (refused refusal)
 
-  step-counts : Few (kindOf o) stepAnswer
+  pub step-counts : Few (kindOf o) stepAnswer
   step-counts =
       by-cond (Few (kindOf o)) (eqb refusal 0) _ _ (λ _. step-few s o (modelIn s b)) (λ h. refused-few (kindOf o) refusal (eqb-false refusal 0 (not-true _ h)))
+
+  pub answer-not-nine : stepAnswer .refusal ≢ 9
+  answer-not-nine = by-cond (λ (a : Answer). a .refusal ≢ 9) (eqb refusal 0) _ _ (λ _. never-nine s o (modelIn s b)) (λ _. not-nine)
 
   -- What the call tells the counters is its answer, but for the value.
   told : (a : Answer) → a ≡ step s o (modelIn s b) .answer → (n : ℕ) → n ≡ a .refusal → countsIn n (answerBytes a) ≡ counted a
@@ -159,7 +162,7 @@ module _ (s : Shape) (o : Order) (b : Bytes) (out : List ℕ) where
     record-full h f eo = rw (eo, eq-eqb (length bs) recordLength h, f)
 
     -- Else the call is that without a record, and it is counted.
-    call-counted : isRecord bs ≡ true → full (totalsIn bs) ≡ false
+    pub call-counted : isRecord bs ≡ true → full (totalsIn bs) ≡ false
         → withRecord (hostStep s o b out) (recordOf (totalsAfter (totalsIn bs) (kindOf o) stepAnswer)) ≡ hostStepTotals s o b out bs
     unfolding hostStep hostStepTotals recordRefusal recordRefused refusalPut stepTotals
     call-counted h f =
