@@ -154,11 +154,11 @@ module _ (n : Totals) (kind : ℕ) (a : Answer) (l : length n ≡ places) (few :
           | no d₂ ↦ elim (ℕ-discrete k swapsPlace) [
             | yes e ↦ rw e (omega (arith, after-at swapsPlace, own-elsewhere swapsPlace (omega arith), few .swapped))
             | no d₃ ↦ rw (
-                after-at k,
-                ne-eqb readsPlace k (λ e. d₁ (sym e)),
-                ne-eqb writesPlace k (λ e. d₂ (sym e)),
-                ne-eqb swapsPlace k (λ e. d₃ (sym e)),
-              ) (omega (arith, one-most (eqb own k)))
+              after-at k,
+              ne-eqb readsPlace k (λ e. d₁ (sym e)),
+              ne-eqb writesPlace k (λ e. d₂ (sym e)),
+              ne-eqb swapsPlace k (λ e. d₃ (sym e)),
+            ) (omega (arith, one-most (eqb own k)))
           ]
         ]
       ]

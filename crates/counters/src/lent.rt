@@ -12,9 +12,13 @@ ghost use Rattle.counters.specs.Counters.{countersAt, countersPut};
 
 // The places of the totals behind those of the kinds, and how many there are.
 const REFUSED: usize = KINDS;
+
 const READS: usize = KINDS + 1;
+
 const WRITES: usize = KINDS + 2;
+
 const SWAPS: usize = KINDS + 3;
+
 pub const PLACES: usize = KINDS + 4;
 
 // The bytes of a record.

@@ -114,7 +114,7 @@ module _ (s : Shape) (o : Order) (b : Bytes) (out : List ℕ) where
       zeros : a .refusal ≢ 0 → refused n ≡ counted a
       zeros d =
           let g : a ≡ refused (a .refusal) =
-              e ∙ ap (λ (r : Result). r .answer) (refused-changes-nothing s o (modelIn s b) (rw e at d)) ∙ ap refused (sym (ap (λ (y : Answer). y .refusal) e)) in
+          e ∙ ap (λ (r : Result). r .answer) (refused-changes-nothing s o (modelIn s b) (rw e at d)) ∙ ap refused (sym (ap (λ (y : Answer). y .refusal) e)) in
           ap refused en ∙ sym (ap counted g)
 
   module _ {n : ℕ} {b' : Bytes} {out' : List ℕ} (e : hosted n b' out' ≡ hostStep s o b out) where
@@ -176,7 +176,7 @@ module _ (s : Shape) (o : Order) (b : Bytes) (out : List ℕ) where
         → withRecord (hosted n b' out') bs' ≡ hostStepTotals s o b out bs
     record-counted h f ek e ea {bs'} em el eb =
         let told : totalsIn bs' ≡ totalsAfter (totalsIn bs) (kindOf o) stepAnswer
-            = em ∙ rw (ek, ea, call-told e, same-counted (totalsIn bs) (kindOf o) stepAnswer) in
+        = em ∙ rw (ek, ea, call-told e, same-counted (totalsIn bs) (kindOf o) stepAnswer) in
         ap (withRecord _) (sym (same-bytes 8 places bs' eb (el ∙ h)) ∙ ap (encoded 8) told)
         ∙ ap (λ (x : Hosted). withRecord x (recordOf (totalsAfter (totalsIn bs) (kindOf o) stepAnswer))) e
         ∙ call-counted (eq-eqb (length bs) recordLength h) f

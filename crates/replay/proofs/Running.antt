@@ -19,7 +19,7 @@ use Rattle.ports.proofs.Bytes.{refitted}
 use Rattle.replay.specs.Trace.{orderAt, ordersOf, five, answersTo, placed}
 
 -- Five numbers to an order.
-orders-length : (ws xs : List ℕ) (k n : ℕ) → length (ordersOf ws xs k n) ≡ n
+pub orders-length : (ws xs : List ℕ) (k n : ℕ) → length (ordersOf ws xs k n) ≡ n
 unfolding ordersOf
 orders-length ws xs k zero = refl
 orders-length ws xs k (suc n) = ap suc (orders-length ws xs (k + 1) n)

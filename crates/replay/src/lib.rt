@@ -26,7 +26,7 @@ pub struct Played {
 }
 
 // The first three sizes.
-fn shape_in(trace: &[u8]) -> Shape
+pub fn shape_in(trace: &[u8]) -> Shape
     requires { ⌜ 16 ≤ length (now trace) ⌝ }
     ensures { λ r. ⌜ r ≡ shapeIn (now (trace .entry)) ⌝ }
 {
@@ -38,7 +38,7 @@ fn shape_in(trace: &[u8]) -> Shape
 }
 
 // The fourth size.
-fn orders_in(trace: &[u8]) -> usize
+pub fn orders_in(trace: &[u8]) -> usize
     requires { ⌜ 16 ≤ length (now trace) ⌝ }
     ensures { λ r. ⌜ (r ≡ ordersIn (now (trace .entry))) × (r < 2 ^ 32) ⌝ }
 {
@@ -46,7 +46,7 @@ fn orders_in(trace: &[u8]) -> usize
 }
 
 // Refusal 1 or 2, in checking order, else 0.
-fn trace_refusal(trace: &[u8]) -> u64
+pub fn trace_refusal(trace: &[u8]) -> u64
     ensures { λ r. ⌜ r ≡ traceRefusal (now (trace .entry)) ⌝ }
 {
     if trace.len() < 16 {

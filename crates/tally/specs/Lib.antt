@@ -1,0 +1,3 @@
+-- The totals of a trace and of several.
+pub mod Tally
+pub mod Example
