@@ -62,10 +62,10 @@ module _ (a b : Totals) where
   added-most (suc m) k h =
       elim (ℕ-discrete k m) [
         | yes e ↦ rw e (omega (
-            arith,
-            getD-set-same (addedBelow m a b) m (totalAt (addedBelow m a b) m + totalAt b m) 0 (below-length m (omega arith)),
-            not-yet m m (omega arith),
-          ))
+          arith,
+          getD-set-same (addedBelow m a b) m (totalAt (addedBelow m a b) m + totalAt b m) 0 (below-length m (omega arith)),
+          not-yet m m (omega arith),
+        ))
         | no d ↦ rw (getD-set-other (addedBelow m a b) m k (totalAt (addedBelow m a b) m + totalAt b m) 0 d) (added-most m k (omega arith))
       ]
     where

@@ -101,7 +101,8 @@ fn tally_orders(shape: Shape, orders: usize, trace: &[u8], row: &mut [u8])
 
 // The totals of a trace go to row, zeros if it is refused. Returns the refusal, 0 if none. No total is above 4,096: two for each of 2,048
 // orders.
-pub fn tally_trace(trace: &[u8], row: &mut [u8; lent::RECORD_BYTES]) -> u64
+pub fn tally_trace(trace: &[u8], row: &mut [u8]) -> u64
+    requires { ⌜ length (now row) ≡ recordLength ⌝ }
     ensures { λ r. ⌜ r ≡ traceRefusal (now (trace .entry)) ⌝ }
     ensures { λ r. ⌜ totalsIn (now (row .exit)) ≡ tallied (now (trace .entry)) ⌝ }
     ensures { λ r. ⌜ ((k : ℕ) → totalAt (totalsIn (now (row .exit))) k ≤ 4096) ⌝ }

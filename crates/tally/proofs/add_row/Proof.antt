@@ -31,8 +31,11 @@ add-total c =
     let after-total-at2 : tie.After-total-at2 Inv-loop μ-loop = search in let after-total-at : tie.After-total-at Inv-loop μ-loop = search in
     let in-loop : tie.In-loop Inv-loop μ-loop = search in let at-loop : tie.At-loop Inv-loop μ-loop = search in
     let start : tie.Start Inv-loop μ-loop = search in
-    omega (arith, sum-fits _ _ (at-loop .loop .inv) (start .pre .1) (in-loop .loop-test .taken) (after-total-at .total-at .ensures)
-    (after-total-at2 .total-at2 .ensures))
+    omega (
+      arith,
+      sum-fits _ _ (at-loop .loop .inv) (start .pre .1) (in-loop .loop-test .taken) (after-total-at .total-at .ensures)
+          (after-total-at2 .total-at2 .ensures),
+    )
 
 mul-write-eight : tie.Need-mul-write-eight Inv-loop μ-loop
 mul-write-eight c = let in-loop : tie.In-loop Inv-loop μ-loop = search in omega (arith, in-loop .loop-test .taken)
