@@ -2,7 +2,7 @@
 -- agrees with the flat memory. Assumes nothing.
 use Prim.Native.Nat.{ℕ, zero, suc, _+_, _*_, _<_, _≤_}
 use mathlib.Core.Path.{_≡_, refl, sym, ap, _∙_}
-use mathlib.Core.Logic.{_≢_}
+use mathlib.Core.Logic.{_≢_, _↔_}
 use mathlib.Core.Bool.{Bool, true, false, cond, _&&_, not}
 use mathlib.Core.List.{List, [], _∷_}
 use native.Mathlib.Omega.{arith}
@@ -12,7 +12,7 @@ use lib.Seq.{getD-set-same, getD-set-other}
 use lib.Dec.{eqb, ltb}
 use borrow.Author.Tests.{eq-eqb, ne-eqb, ltb-true, ltb-false, not-true}
 use Rattle.words.specs.Bools.{bit}
-use Rattle.words.proofs.Bools.{by-bool}
+use Rattle.words.proofs.Bools.{not-both, by-bool, by-cond}
 use Rattle.model.specs.declared.shape.Shape.{Shape}
 use Rattle.model.specs.declared.answer.Answer.{Answer}
 use Rattle.model.specs.Order.{Order, kinds, kindOf}
@@ -25,20 +25,20 @@ use Rattle.model.proofs.Claims.{never-nine}
 use Rattle.model.proofs.Theorem.{agreement}
 use Rattle.counters.specs.Totals.{Totals, refusedPlace, readsPlace, writesPlace, swapsPlace, places, totalAt, zeros, full, orderPlace}
 use Rattle.counters.specs.Totals.{plus, totalsAfter, Few, Counting, counting, stepTotals}
-use Rattle.counters.specs.Run.{Answered, answered, answersWith, modelWith, totalsWith, others, sumOf, acceptedIn, refusedIn, readsIn}
+use Rattle.counters.specs.Run.{Answered, answered, answersWith, modelWith, totalsWith, isNine, others, sumOf, acceptedIn, refusedIn, readsIn}
 use Rattle.counters.specs.Run.{writesIn, swappedIn, AreSums, TotalsAreSums, Without9, answersWithout, SameWithout9, AgreesWith}
-use Rattle.counters.specs.Run.{AgreementWithTotals, TwoToAnOrder}
+use Rattle.counters.specs.Run.{NineSays, AgreementWithTotals, TwoToAnOrder}
 use Rattle.counters.proofs.Answers.{step-few}
 use Rattle.counters.proofs.Counting.{place-low}
 
 -- One answer, and then others: its number counts unless it is 9.
 others-more : (f : Answered → ℕ) (x : Answered) (xs : List Answered) → sumOf f (others (x ∷ xs)) ≡ sumOf f (others (x ∷ [])) + sumOf f (others xs)
 unfolding others sumOf
-others-more f x xs = go (eqb (x .answer .refusal) 9)
+others-more f x xs = skipped (isNine x)
   where
-    go : (b : Bool) → sumOf f (cond b (others xs) (x ∷ others xs)) ≡ sumOf f (cond b [] (x ∷ [])) + sumOf f (others xs)
-    go true = omega arith
-    go false = omega arith
+    skipped : (b : Bool) → sumOf f (cond b (others xs) (x ∷ others xs)) ≡ sumOf f (cond b [] (x ∷ [])) + sumOf f (others xs)
+    skipped true = omega arith
+    skipped false = omega arith
 
 -- No answer and an answer 9 count for nothing, another for its number.
 none-counts : (f : Answered → ℕ) → sumOf f (others []) ≡ 0
@@ -189,18 +189,12 @@ module _ (n : Totals) (kind : ℕ) (a : Answer) (l : length n ≡ places) (few :
           ∙ rw (ne-eqb readsPlace k (λ e. omega (arith, e, h)), ne-eqb writesPlace k (λ e. omega (arith, e, h)), ne-eqb swapsPlace k (λ e. omega (arith, e, h)))
           (omega (arith, own-kind k h))
 
--- The step with totals, where they have no room and where they have.
-abbrev either : Shape → Order → Model → Totals → Bool → Counting
-either s o t n b = cond b (counting (refused 9) t n) (counting (step s o t .answer) (step s o t .after) (totalsAfter n (kindOf o) (step s o t .answer)))
-
 adds-step : (s : Shape) (o : Order) (t : Model) (n : Totals) → length n ≡ places
     → Adds n (stepTotals s o t n .totals) (answered (kindOf o) (stepTotals s o t n .answer))
 unfolding stepTotals
-adds-step s o t n l = go (full n)
-  where
-    go : (b : Bool) → Adds n (either s o t n b .totals) (answered (kindOf o) (either s o t n b .answer))
-    go true = adds-none n (kindOf o)
-    go false = adds-answer n (kindOf o) (step s o t .answer) l (step-few s o t) (never-nine s o t)
+adds-step s o t n l =
+    by-cond (λ (c : Counting). Adds n (c .totals) (answered (kindOf o) (c .answer))) (full n) _ _ (λ _. adds-none n (kindOf o))
+    (λ _. adds-answer n (kindOf o) (step s o t .answer) l (step-few s o t) (never-nine s o t))
 
 -- From any totals, each grows by its sum over the answers.
 pub record Grows (n m : Totals) (xs : List Answered) : Type 0 where
@@ -256,16 +250,20 @@ from-zeros {m} {xs} g = record {
 pub totals-are-sums : TotalsAreSums
 totals-are-sums s os t = from-zeros (grows s os t zeros refl)
 
+pub nine-says : NineSays
+unfolding stepTotals
+nine-says s o t n =
+    by-cond (λ (c : Counting). ((c .answer .refusal ≡ 9) ↔ (full n ≡ true)) × (full n ≡ true → c ≡ counting (refused 9) t n)) (full n) _ _
+    (λ h. ((λ _. h, λ _. refl), λ _. refl))
+    (λ h. ((λ e. absurd (never-nine s o t e), λ e. absurd (not-both e h)), λ e. absurd (not-both e h)))
+
 -- Where 9 is not given, the step with totals is the step.
 not-nine : (s : Shape) (o : Order) (t : Model) (n : Totals) → stepTotals s o t n .answer .refusal ≢ 9
     → (stepTotals s o t n .answer ≡ step s o t .answer) × (stepTotals s o t n .after ≡ step s o t .after)
 unfolding stepTotals
-not-nine s o t n = go (full n)
-  where
-    go : (b : Bool) → either s o t n b .answer .refusal ≢ 9
-        → (either s o t n b .answer ≡ step s o t .answer) × (either s o t n b .after ≡ step s o t .after)
-    go true d = absurd (d refl)
-    go false d = (refl, refl)
+not-nine s o t n =
+    by-cond (λ (c : Counting). c .answer .refusal ≢ 9 → (c .answer ≡ step s o t .answer) × (c .after ≡ step s o t .after)) (full n) _ _
+    (λ _ d. absurd (d refl)) (λ _ d. (refl, refl))
 
 pub same-without-9 : SameWithout9
 unfolding Without9 answersWith modelWith answersWithout modelRun
@@ -299,13 +297,11 @@ bit-most false = omega arith
 module _ (f : Answered → ℕ) (most-two : (kind : ℕ) (a : Answer) → Few kind a → f (answered kind a) ≤ 2) where
   one-most : (s : Shape) (o : Order) (t : Model) (n : Totals) → sumOf f (others (answered (kindOf o) (stepTotals s o t n .answer) ∷ [])) ≤ 2
   unfolding stepTotals
-  one-most s o t n = go (full n)
-    where
-      go : (b : Bool) → sumOf f (others (answered (kindOf o) (either s o t n b .answer) ∷ [])) ≤ 2
-      go true = omega (arith, nine-counts f (kindOf o))
-      go false =
-          let x = answered (kindOf o) (step s o t .answer) in
-          omega (arith, other-counts f x (never-nine s o t), most-two (kindOf o) (step s o t .answer) (step-few s o t))
+  one-most s o t n =
+      let x = answered (kindOf o) (step s o t .answer) in
+      by-cond (λ (c : Counting). sumOf f (others (answered (kindOf o) (c .answer) ∷ [])) ≤ 2) (full n) _ _
+      (λ _. omega (arith, nine-counts f (kindOf o)))
+      (λ _. omega (arith, other-counts f x (never-nine s o t), most-two (kindOf o) (step s o t .answer) (step-few s o t)))
 
   sum-most : (s : Shape) (os : List Order) (t : Model) (n : Totals) → sumOf f (others (answersWith s os t n)) ≤ 2 * length os
   unfolding answersWith

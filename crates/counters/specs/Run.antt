@@ -1,9 +1,9 @@
 -- A run of orders on one record of totals that nobody else writes, and what is proved of it: each total is a sum over the answers, and a run in
--- which 9 is not given is the run without a record. The proofs are in proofs/Sums.antt.
+-- which 9 is not given is the run without a record, and agrees with the flat memory. The proofs are in proofs/Sums.antt.
 use Prim.Native.Nat.{ℕ, _+_, _*_, _<_, _≤_}
 use mathlib.Core.Path.{_≡_}
-use mathlib.Core.Logic.{_≢_}
-use mathlib.Core.Bool.{true, cond, _&&_, not}
+use mathlib.Core.Logic.{_≢_, _↔_}
+use mathlib.Core.Bool.{Bool, true, cond, _&&_, not}
 use mathlib.Core.List.{List, [], _∷_}
 use lib.ListN.{length}
 use lib.Dec.{eqb}
@@ -12,13 +12,13 @@ use Rattle.model.specs.declared.shape.Shape.{Shape}
 use Rattle.model.specs.declared.answer.Answer.{Answer}
 use Rattle.model.specs.Order.{Order, kinds, kindOf}
 use Rattle.model.specs.Tables.{Model, lentRefusal}
-use Rattle.model.specs.Step.{step}
+use Rattle.model.specs.Step.{refused, step}
 use Rattle.model.specs.Fresh.{fresh}
 use Rattle.model.specs.Audit.{audit}
 use Rattle.model.specs.Flat.{Flat, flatStep, flatStart}
 use Rattle.model.specs.Agreement.{Agrees}
 use Rattle.model.specs.Marks.{modelRun}
-use Rattle.counters.specs.Totals.{Totals, refusedPlace, readsPlace, writesPlace, swapsPlace, totalAt, zeros, stepTotals}
+use Rattle.counters.specs.Totals.{Totals, refusedPlace, readsPlace, writesPlace, swapsPlace, totalAt, zeros, full, counting, stepTotals}
 
 -- An answer, and the kind that the word of its order says.
 pub record Answered : Type 0 where
@@ -43,9 +43,12 @@ totalsWith s [] t n = n
 totalsWith s (o ∷ os) t n = let r = stepTotals s o t n in totalsWith s os (r .after) (r .totals)
 
 -- The answers other than 9.
+abbrev pub isNine : Answered → Bool
+isNine x = eqb (x .answer .refusal) 9
+
 unfoldable pub others : List Answered → List Answered
 others [] = []
-others (x ∷ xs) = cond (eqb (x .answer .refusal) 9) (others xs) (x ∷ others xs)
+others (x ∷ xs) = cond (isNine x) (others xs) (x ∷ others xs)
 
 -- The sum of a number over a list of answers.
 unfoldable pub sumOf : (Answered → ℕ) → List Answered → ℕ
@@ -80,6 +83,12 @@ pub record AreSums (n : Totals) (xs : List Answered) : Type 0 where
 -- Over every list of orders, from any memory and tables, with totals from zeros: each is its sum over the answers other than 9.
 abbrev pub TotalsAreSums : Type 0
 TotalsAreSums = (s : Shape) (os : List Order) (t : Model) → AreSums (totalsWith s os t zeros) (others (answersWith s os t zeros))
+
+-- Refusal 9 is given exactly where a total has no room, before every other refusal, and changes neither memory nor tables nor totals.
+abbrev pub NineSays : Type 0
+NineSays =
+    (s : Shape) (o : Order) (t : Model) (n : Totals)
+    → ((stepTotals s o t n .answer .refusal ≡ 9) ↔ (full n ≡ true)) × (full n ≡ true → stepTotals s o t n ≡ counting (refused 9) t n)
 
 -- Refusal 9 is not given.
 unfoldable pub Without9 : List Answered → Type 0
