@@ -1,4 +1,4 @@
-/* Times the library, the plain model, the walking model and the second model on the same orders, in turn, in one process. */
+/* Times the library and three models in C on the same orders, in turn, in one process; then the step with a record. */
 
 #define _POSIX_C_SOURCE 200809L
 
@@ -17,12 +17,15 @@ enum { ORDERS = 65536, ALIGNMENT = 64, MOST_BYTES = 8 * SECOND_MAX_LINES };
 
 enum subject { LIBRARY, PLAIN, WALKING, SECOND, SUBJECTS };
 
-enum { BYTE_MODELS = SECOND };
+/* The byte models come before the second model. In the table of totals each is timed by its step and, BYTE_MODELS
+   further on, by its step with a record. */
+enum { BYTE_MODELS = SECOND, STEPS = 2 * BYTE_MODELS };
 
 /* What one of the byte models works on; the second model has arrays of its own. */
 struct bytes {
     uint8_t *memory, *tags, *states, *data;
     uint8_t answer[SECOND_ANSWER_BYTES];
+    uint8_t record[SECOND_RECORD_BYTES];
     uint8_t verdict[SECOND_VERDICT_BYTES];
 };
 
@@ -42,16 +45,21 @@ typedef uint64_t fresh_call(uint64_t, uint64_t, uint64_t, const uint8_t *, size_
                             uint8_t *, size_t);
 typedef uint64_t step_call(uint64_t, uint64_t, uint64_t, uint64_t, uint64_t, uint8_t *, size_t, uint8_t *, size_t,
                            uint8_t *, size_t, uint8_t *, size_t, uint8_t *, size_t);
+typedef uint64_t totals_call(uint64_t, uint64_t, uint64_t, uint64_t, uint64_t, uint8_t *, size_t, uint8_t *, size_t,
+                             uint8_t *, size_t, uint8_t *, size_t, uint8_t *, size_t, uint8_t *, size_t);
 typedef uint64_t audit_call(uint64_t, uint64_t, uint64_t, const uint8_t *, size_t, const uint8_t *, size_t,
                             const uint8_t *, size_t, const uint8_t *, size_t, uint8_t *, size_t);
 
 static fresh_call *const fresh_calls[BYTE_MODELS] = {moesi_fresh, plain_fresh, walking_fresh};
 static step_call *const step_calls[BYTE_MODELS] = {moesi_step, plain_step, walking_step};
+static totals_call *const totals_calls[BYTE_MODELS] = {moesi_step_totals, plain_step_totals, walking_step_totals};
 static audit_call *const audit_calls[BYTE_MODELS] = {moesi_audit, plain_audit, walking_audit};
 
-/* One round of each call: the work that is timed. */
+/* One round of each call, by the number of who does it: the work that is timed. */
 
-static void fresh_round(struct bench *bench, enum subject subject)
+typedef void round_call(struct bench *, int);
+
+static void fresh_round(struct bench *bench, int subject)
 {
     struct second_lengths n = bench->lengths;
     struct bytes *b = &bench->bytes[subject == SECOND ? 0 : subject];
@@ -65,7 +73,7 @@ static void fresh_round(struct bench *bench, enum subject subject)
     bench->sink += sum;
 }
 
-static void step_round(struct bench *bench, enum subject subject)
+static void step_round(struct bench *bench, int subject)
 {
     struct second_lengths n = bench->lengths;
     struct bytes *b = &bench->bytes[subject == SECOND ? 0 : subject];
@@ -80,7 +88,31 @@ static void step_round(struct bench *bench, enum subject subject)
     bench->sink += sum;
 }
 
-static void audit_round(struct bench *bench, enum subject subject)
+/* The record starts from zeros. */
+static void totals_round(struct bench *bench, int model)
+{
+    struct second_lengths n = bench->lengths;
+    struct bytes *b = &bench->bytes[model];
+    uint64_t sum = 0;
+
+    memset(b->record, 0, sizeof b->record);
+    for (size_t k = 0; k < bench->count; k++)
+        sum += totals_calls[model](bench->shape.ports, bench->shape.sets, bench->shape.lines, bench->words[k],
+                                   bench->operands[k], b->memory, n.memory, b->tags, n.tags, b->states, n.states,
+                                   b->data, n.data, b->answer, sizeof b->answer, b->record, sizeof b->record);
+    bench->sink += sum;
+}
+
+/* The step of a byte model, without a record or with one, on the same memory and tables. */
+static void either_round(struct bench *bench, int which)
+{
+    if (which < BYTE_MODELS)
+        step_round(bench, which);
+    else
+        totals_round(bench, which - BYTE_MODELS);
+}
+
+static void audit_round(struct bench *bench, int subject)
 {
     struct second_lengths n = bench->lengths;
     struct bytes *b = &bench->bytes[subject == SECOND ? 0 : subject];
@@ -105,14 +137,14 @@ static double now(void)
     return (double)time.tv_sec + (double)time.tv_nsec * 1e-9;
 }
 
-/* Seconds for one call of each subject: the best of the repetitions, which take turns in who goes first. */
-static void time_rounds(struct bench *bench, void (*round)(struct bench *, enum subject), double best[SUBJECTS])
+/* Seconds for one call of each of the subjects: the best of the repetitions, which take turns in who goes first. */
+static void time_rounds(struct bench *bench, round_call *round, int subjects, double best[])
 {
-    for (int s = 0; s < SUBJECTS; s++)
+    for (int s = 0; s < subjects; s++)
         best[s] = 1e9;
     for (int repetition = 0; repetition < bench->repetitions; repetition++) {
-        for (int turn = 0; turn < SUBJECTS; turn++) {
-            enum subject subject = (enum subject)((repetition + turn) % SUBJECTS);
+        for (int turn = 0; turn < subjects; turn++) {
+            int subject = (repetition + turn) % subjects;
             double start = now(), spent;
 
             round(bench, subject);
@@ -123,15 +155,37 @@ static void time_rounds(struct bench *bench, void (*round)(struct bench *, enum 
     }
 }
 
+/* The same, after one round to warm up. */
+static void time_orders(struct bench *bench, round_call *round, int subjects, double best[])
+{
+    for (int s = 0; s < subjects; s++)
+        round(bench, s);
+    time_rounds(bench, round, subjects, best);
+}
+
+static void print_shape(struct second_shape shape)
+{
+    char text[32];
+
+    snprintf(text, sizeof text, "%u/%u/%u", (unsigned)shape.ports, (unsigned)shape.sets, (unsigned)shape.lines);
+    printf("%-10s ", text);
+}
+
 static void print_row(const struct bench *bench, const char *what, const double best[SUBJECTS])
 {
-    char shape[32];
+    print_shape(bench->shape);
+    printf("%-19s %11.0f %11.0f %11.0f %11.0f %9.2f %9.2f %10.2f\n", what, 1 / best[LIBRARY], 1 / best[PLAIN],
+           1 / best[WALKING], 1 / best[SECOND], best[LIBRARY] / best[PLAIN], best[LIBRARY] / best[WALKING],
+           best[LIBRARY] / best[SECOND]);
+}
 
-    snprintf(shape, sizeof shape, "%u/%u/%u", (unsigned)bench->shape.ports, (unsigned)bench->shape.sets,
-             (unsigned)bench->shape.lines);
-    printf("%-10s %-19s %11.0f %11.0f %11.0f %11.0f %9.2f %9.2f %10.2f\n", shape, what, 1 / best[LIBRARY],
-           1 / best[PLAIN], 1 / best[WALKING], 1 / best[SECOND], best[LIBRARY] / best[PLAIN],
-           best[LIBRARY] / best[WALKING], best[LIBRARY] / best[SECOND]);
+static void print_totals_row(const struct bench *bench, const char *what, const double best[STEPS])
+{
+    const double *with = best + BYTE_MODELS;
+
+    print_shape(bench->shape);
+    printf("%-19s %11.0f %11.0f %10.2f %9.2f %10.2f\n", what, 1 / best[LIBRARY], 1 / with[LIBRARY],
+           with[LIBRARY] / best[LIBRARY], with[PLAIN] / best[PLAIN], with[WALKING] / best[WALKING]);
 }
 
 /* States. */
@@ -160,20 +214,45 @@ static void start(struct bench *bench, struct second_shape shape)
                       bench->bytes[k].data);
 }
 
-/* Whether all have come to the same memory and tables. */
-static int states_agree(const struct bench *bench, struct bytes *scratch)
+static int same_state(const struct bench *bench, const struct bytes *a, const struct bytes *b)
 {
     struct second_lengths n = bench->lengths;
 
-    second_encode(&bench->second, scratch->memory, scratch->tags, scratch->states, scratch->data);
-    for (int k = 0; k < BYTE_MODELS; k++) {
-        const struct bytes *b = &bench->bytes[k];
+    return memcmp(a->memory, b->memory, n.memory) == 0 && memcmp(a->tags, b->tags, n.tags) == 0 &&
+           memcmp(a->states, b->states, n.states) == 0 && memcmp(a->data, b->data, n.data) == 0;
+}
 
-        if (memcmp(b->memory, scratch->memory, n.memory) != 0 || memcmp(b->tags, scratch->tags, n.tags) != 0 ||
-            memcmp(b->states, scratch->states, n.states) != 0 || memcmp(b->data, scratch->data, n.data) != 0)
-            return 0;
-    }
-    return 1;
+/* Whether the byte models have come to the same memory and tables. */
+static int bytes_agree(const struct bench *bench)
+{
+    return same_state(bench, &bench->bytes[LIBRARY], &bench->bytes[PLAIN]) &&
+           same_state(bench, &bench->bytes[LIBRARY], &bench->bytes[WALKING]);
+}
+
+/* Whether all have. */
+static int states_agree(const struct bench *bench, struct bytes *scratch)
+{
+    second_encode(&bench->second, scratch->memory, scratch->tags, scratch->states, scratch->data);
+    return bytes_agree(bench) && same_state(bench, &bench->bytes[LIBRARY], scratch);
+}
+
+/* Whether the byte models have, and in one round more come to the same record, which has all the orders as accepted.
+   The timed rounds' records aren't compared: who goes first takes turns, so the last ones may be from other tables. */
+static int records_agree(struct bench *bench)
+{
+    const uint8_t *record = bench->bytes[LIBRARY].record;
+    struct moesi_totals totals;
+    uint64_t accepted = 0;
+
+    if (!bytes_agree(bench))
+        return 0;
+    for (int k = 0; k < BYTE_MODELS; k++)
+        totals_round(bench, k);
+    totals = moesi_read_totals(record);
+    for (int kind = 0; kind < SECOND_KINDS; kind++)
+        accepted += totals.accepted[kind];
+    return bytes_agree(bench) && memcmp(record, bench->bytes[PLAIN].record, SECOND_RECORD_BYTES) == 0 &&
+           memcmp(record, bench->bytes[WALKING].record, SECOND_RECORD_BYTES) == 0 && accepted == bench->count;
 }
 
 /* Traffic. */
@@ -247,7 +326,8 @@ static void make_shared_writes(struct bench *bench, struct generator *generator)
     unsigned lines = (unsigned)(bench->shape.lines < bench->shape.sets ? bench->shape.lines : bench->shape.sets);
 
     for (bench->count = 0; bench->count < ORDERS;)
-        add(bench, generator, order_of(MOESI_WRITE, 1, generator_below(generator, bench->shape.ports), generator_below(generator, lines), 0xFF));
+        add(bench, generator, order_of(MOESI_WRITE, 1, generator_below(generator, bench->shape.ports),
+                                       generator_below(generator, lines), 0xFF));
 }
 
 /* All kinds and modes, lines below limit. */
@@ -257,7 +337,8 @@ static void make_mix(struct bench *bench, struct generator *generator, unsigned 
 
     for (bench->count = 0; bench->count < ORDERS;) {
         unsigned kind = kinds[generator_below(generator, 16)];
-        unsigned mask = kind == MOESI_SWAP ? (generator_below(generator, 2) ? 0x0F : 0xF0) : generator_below(generator, 256);
+        unsigned mask = kind == MOESI_SWAP ? (generator_below(generator, 2) ? 0x0F : 0xF0)
+                                           : generator_below(generator, 256);
         unsigned near = 2 * (unsigned)bench->shape.sets < limit ? 2 * (unsigned)bench->shape.sets : limit;
         unsigned line = generator_below(generator, generator_percent(generator, 50) ? near : limit);
         unsigned mode = generator_percent(generator, 70) ? 1 : 0;
@@ -284,18 +365,48 @@ static void make_device_writes(struct bench *bench, struct generator *generator)
     }
 }
 
-/* The table. */
+/* The rows of orders at a shape. Device writes are last, so that the rows before them have the orders that they had
+   before there were device writes. */
+enum traffic { HITS, MISSES, SHARED_WRITES, MIX, DEVICE_WRITES, TRAFFICS };
 
-/* Times the orders that were made, after one round to warm up. */
-static void time_steps(struct bench *bench, const char *what)
+static const char *const traffic_names[TRAFFICS] = {"step: hits", "step: misses", "step: shared writes", "step: mix",
+                                                    "step: device writes"};
+
+/* The random numbers of a shape's orders: both tables have the same orders. */
+static struct generator generator_of(struct second_shape shape)
 {
-    double best[SUBJECTS];
+    struct generator generator = {shape.ports * 1000 + shape.sets * 10 + shape.lines};
 
-    for (int s = 0; s < SUBJECTS; s++)
-        step_round(bench, (enum subject)s);
-    time_rounds(bench, step_round, best);
-    print_row(bench, what, best);
+    return generator;
 }
+
+/* Makes the orders of a row. Misses and the mix go on where the row before them ended, the others start fresh. */
+static void make_traffic(struct bench *bench, struct generator *generator, struct second_shape shape, int traffic)
+{
+    if (traffic != MISSES && traffic != MIX)
+        start(bench, shape);
+    switch (traffic) {
+    case HITS:
+        make_hits(bench, generator);
+        break;
+    case MISSES:
+        make_misses(bench, generator);
+        break;
+    case SHARED_WRITES:
+        make_shared(bench, generator);
+        for (int s = 0; s < SUBJECTS; s++)
+            step_round(bench, s);
+        make_shared_writes(bench, generator);
+        break;
+    case MIX:
+        make_mix(bench, generator, (unsigned)shape.lines);
+        break;
+    default:
+        make_device_writes(bench, generator);
+    }
+}
+
+/* The table of all models. */
 
 static void time_tables(struct bench *bench)
 {
@@ -303,38 +414,26 @@ static void time_tables(struct bench *bench)
     size_t entries = (size_t)(bench->shape.ports * bench->shape.sets);
 
     bench->count = entries < 64 ? 1024 : 32;
-    time_rounds(bench, audit_round, best);
+    time_rounds(bench, audit_round, SUBJECTS, best);
     print_row(bench, "audit after the mix", best);
-    time_rounds(bench, fresh_round, best);
+    time_rounds(bench, fresh_round, SUBJECTS, best);
     print_row(bench, "fresh", best);
 }
 
 static int time_shape(struct bench *bench, struct second_shape shape, struct bytes *scratch)
 {
-    struct generator generator = {shape.ports * 1000 + shape.sets * 10 + shape.lines};
-    int agree;
+    struct generator generator = generator_of(shape);
+    double best[SUBJECTS];
+    int agree = 1;
 
-    start(bench, shape);
-    make_hits(bench, &generator);
-    time_steps(bench, "step: hits");
-    make_misses(bench, &generator);
-    time_steps(bench, "step: misses");
-    agree = states_agree(bench, scratch);
-    start(bench, shape);
-    make_shared(bench, &generator);
-    for (int s = 0; s < SUBJECTS; s++)
-        step_round(bench, (enum subject)s);
-    make_shared_writes(bench, &generator);
-    time_steps(bench, "step: shared writes");
-    make_mix(bench, &generator, (unsigned)shape.lines);
-    time_steps(bench, "step: mix");
-    agree &= states_agree(bench, scratch);
-    time_tables(bench);
-    /* Last, so that the rows above have the orders that they had before there were device writes. */
-    start(bench, shape);
-    make_device_writes(bench, &generator);
-    time_steps(bench, "step: device writes");
-    agree &= states_agree(bench, scratch);
+    for (int traffic = 0; traffic < TRAFFICS; traffic++) {
+        make_traffic(bench, &generator, shape, traffic);
+        time_orders(bench, step_round, SUBJECTS, best);
+        print_row(bench, traffic_names[traffic], best);
+        agree &= states_agree(bench, scratch);
+        if (traffic == MIX)
+            time_tables(bench);
+    }
     if (!agree)
         printf("the models differ after the orders at this shape\n");
     return agree;
@@ -351,18 +450,68 @@ static void time_growth(struct bench *bench)
 
         start(bench, shapes[k]);
         make_mix(bench, &generator, 64);
-        time_rounds(bench, step_round, best[k]);
+        time_rounds(bench, step_round, SUBJECTS, best[k]);
     }
     printf("same orders (lines below 64) at 8/64/4096 over 8/64/64: library %.2f, walking model %.2f\n",
            best[1][LIBRARY] / best[0][LIBRARY], best[1][WALKING] / best[0][WALKING]);
 }
 
+static const struct second_shape shapes[5] = {{1, 1, 1}, {2, 1, 2}, {4, 16, 1024}, {8, 64, 64}, {8, 64, 4096}};
+
+static int print_models(struct bench *bench, struct bytes *scratch)
+{
+    int agree = 1;
+
+    printf("%-10s %-19s %11s %11s %11s %11s %9s %9s %10s\n", "shape", "calls per second of", "library", "plain",
+           "walking", "second", "lib/plain", "lib/walk", "lib/second");
+    for (int k = 0; k < 5; k++)
+        agree &= time_shape(bench, shapes[k], scratch);
+    time_growth(bench);
+    printf("The last three columns are times over times: below 1 the library is the faster one. Each row is the best\n"
+           "of its repetitions, after a warm-up, from a fresh model. The second model works on decoded arrays and\n"
+           "checks no shape and no length. In the mix the swaps compare with 0, and nearly all fail. Three in eight\n"
+           "orders of the row of device writes are such, the others reads and writes by ports.\n");
+    return agree;
+}
+
+/* The table of totals: the step with a record against the step without. */
+
+static int time_totals(struct bench *bench, struct second_shape shape)
+{
+    struct generator generator = generator_of(shape);
+    double best[STEPS];
+    int agree = 1;
+
+    for (int traffic = 0; traffic < TRAFFICS; traffic++) {
+        make_traffic(bench, &generator, shape, traffic);
+        time_orders(bench, either_round, STEPS, best);
+        print_totals_row(bench, traffic_names[traffic], best);
+        agree &= records_agree(bench);
+    }
+    if (!agree)
+        printf("the models differ after the orders with a record at this shape\n");
+    return agree;
+}
+
+static int print_totals(struct bench *bench)
+{
+    int agree = 1;
+
+    printf("\n%-10s %-19s %11s %11s %10s %9s %10s\n", "shape", "calls per second of", "library", "with record",
+           "of library", "of plain", "of walking");
+    for (int k = 0; k < 5; k++)
+        agree &= time_totals(bench, shapes[k]);
+    printf("The last three columns are times over times: of a step with a record of totals over a step without, by\n"
+           "the same model. The six take turns on the orders of the table above, a model's two on the same tables.\n"
+           "A record starts from zeros in each round.\n");
+    return agree;
+}
+
 int main(int argc, char **argv)
 {
-    static const struct second_shape shapes[5] = {{1, 1, 1}, {2, 1, 2}, {4, 16, 1024}, {8, 64, 64}, {8, 64, 4096}};
     static struct bench bench;
     struct bytes all[BYTE_MODELS + 1];
-    int agree = 1;
+    int agree;
 
     bench.repetitions = argc > 1 ? atoi(argv[1]) : 20;
     for (int k = 0; k <= BYTE_MODELS; k++) {
@@ -373,15 +522,8 @@ int main(int argc, char **argv)
     }
     for (int k = 0; k < BYTE_MODELS; k++)
         bench.bytes[k] = all[k];
-    printf("%-10s %-19s %11s %11s %11s %11s %9s %9s %10s\n", "shape", "calls per second of", "library", "plain",
-           "walking", "second", "lib/plain", "lib/walk", "lib/second");
-    for (int k = 0; k < 5; k++)
-        agree = time_shape(&bench, shapes[k], &all[BYTE_MODELS]) && agree;
-    time_growth(&bench);
-    printf("The last three columns are times over times: below 1 the library is the faster one. Each row is the best of\n"
-           "its repetitions, after a warm-up, from a fresh model. The second model works on decoded arrays and checks no\n"
-           "shape and no length. In the mix the swaps compare with 0, and nearly all fail. Three in eight orders\n"
-           "of the row of device writes are such, the others reads and writes by ports.\n");
+    agree = print_models(&bench, &all[BYTE_MODELS]);
+    agree &= print_totals(&bench);
     for (int k = 0; k <= BYTE_MODELS; k++) {
         free(all[k].memory);
         free(all[k].tags);

@@ -339,6 +339,56 @@ uint64_t plain_step(uint64_t ports, uint64_t sets, uint64_t lines,
     return answer_with(answer, perform(&t, &o), &o);
 }
 
+/* Whether a total of the record is above 2^64 - 3. */
+static int is_full(const uint8_t *record)
+{
+    for (int k = 0; k < 10; k++) {
+        if (get8(record + 8 * k) > UINT64_MAX - 2)
+            return 1;
+    }
+    return 0;
+}
+
+static void add(uint8_t *record, uint64_t place, uint64_t number)
+{
+    put8(record + 8 * place, get8(record + 8 * place) + number);
+}
+
+/* A refusal that is not counted, given where the answer has its length. */
+static uint64_t refuse(uint8_t *answer, size_t answer_len, uint64_t refusal)
+{
+    return answer_len == 40 ? answer_with(answer, refusal, NULL) : refusal;
+}
+
+/* The record has the accepted orders of kinds 0 to 5, at 6 the refused ones, then memory reads, writes and swaps. */
+uint64_t plain_step_totals(uint64_t ports, uint64_t sets, uint64_t lines,
+                           uint64_t word, uint64_t operand,
+                           uint8_t *memory, size_t memory_len,
+                           uint8_t *tags, size_t tags_len,
+                           uint8_t *states, size_t states_len,
+                           uint8_t *data, size_t data_len,
+                           uint8_t *answer, size_t answer_len,
+                           uint8_t *record, size_t record_len)
+{
+    uint64_t refusal;
+
+    if (record_len != 80) {
+        refusal = refusal_of(ports, sets, lines, memory_len, tags_len, states_len, data_len);
+        return refuse(answer, answer_len, refusal == 2 ? 2 : 3);
+    }
+    if (is_full(record))
+        return refuse(answer, answer_len, 9);
+    refusal = plain_step(ports, sets, lines, word, operand, memory, memory_len, tags, tags_len, states, states_len,
+                         data, data_len, answer, answer_len);
+    add(record, refusal ? 6 : word & 7, 1);
+    if (refusal)
+        return refusal;
+    add(record, 7, get8(answer + 24));
+    add(record, 8, get8(answer + 32));
+    add(record, 9, get8(answer + 16));
+    return 0;
+}
+
 uint64_t plain_fresh(uint64_t ports, uint64_t sets, uint64_t lines,
                      const uint8_t *memory, size_t memory_len,
                      uint8_t *tags, size_t tags_len,

@@ -405,6 +405,60 @@ uint64_t walking_step(uint64_t ports, uint64_t sets, uint64_t lines,
     return answer_with(answer, 0, &w);
 }
 
+/* Totals: the accepted orders of each kind, then the refused ones, memory reads and writes, and swaps. */
+enum { REFUSED = DEVICE_WRITE + 1, READS, WRITES, SWAPS, TOTALS, RECORD_BYTES = 8 * TOTALS };
+
+/* Whether a total has no room for the two that an order may add. All of them have below 2^63, so that the second loop
+   is seldom gone through. */
+static inline int is_full(const uint8_t *record)
+{
+    uint64_t bits = 0;
+
+    for (size_t k = 0; k < TOTALS; k++)
+        bits |= load64(record + 8 * k);
+    for (size_t k = 0; bits >> 63 && k < TOTALS; k++) {
+        if (load64(record + 8 * k) > UINT64_MAX - 2)
+            return 1;
+    }
+    return 0;
+}
+
+static inline void add_to(uint8_t *record, size_t place, uint64_t more)
+{
+    store64(record + 8 * place, load64(record + 8 * place) + more);
+}
+
+uint64_t walking_step_totals(uint64_t ports, uint64_t sets, uint64_t lines,
+                             uint64_t word, uint64_t operand,
+                             uint8_t *memory, size_t memory_len,
+                             uint8_t *tags, size_t tags_len,
+                             uint8_t *states, size_t states_len,
+                             uint8_t *data, size_t data_len,
+                             uint8_t *answer, size_t answer_len,
+                             uint8_t *record, size_t record_len)
+{
+    uint64_t refusal;
+
+    if (record_len != RECORD_BYTES) {
+        refusal = check_slices(ports, sets, lines, memory_len, tags_len, states_len, data_len);
+        refusal = refusal == 2 ? 2 : 3;
+        return answer_len == ANSWER_BYTES ? refuse(answer, refusal) : refusal;
+    }
+    if (is_full(record))
+        return answer_len == ANSWER_BYTES ? refuse(answer, 9) : 9;
+    refusal = walking_step(ports, sets, lines, word, operand, memory, memory_len, tags, tags_len, states, states_len,
+                           data, data_len, answer, answer_len);
+    if (refusal) {
+        add_to(record, REFUSED, 1);
+        return refusal;
+    }
+    add_to(record, word & 7, 1);
+    add_to(record, SWAPS, load64(answer + 16));
+    add_to(record, READS, load64(answer + 24));
+    add_to(record, WRITES, load64(answer + 32));
+    return 0;
+}
+
 uint64_t walking_fresh(uint64_t ports, uint64_t sets, uint64_t lines,
                        const uint8_t *memory, size_t memory_len,
                        uint8_t *tags, size_t tags_len,

@@ -1,4 +1,4 @@
-/* A plain C model that walks the lent byte tables: the three calls of include/moesi.h under other names. */
+/* A plain C model that walks the lent byte tables: the four calls of include/moesi.h under other names. */
 
 #ifndef WALKING_MODEL_H
 #define WALKING_MODEL_H
@@ -19,6 +19,15 @@ uint64_t walking_step(uint64_t ports, uint64_t sets, uint64_t lines,
                       uint8_t *states, size_t states_len,
                       uint8_t *data, size_t data_len,
                       uint8_t *answer, size_t answer_len);
+
+uint64_t walking_step_totals(uint64_t ports, uint64_t sets, uint64_t lines,
+                             uint64_t word, uint64_t operand,
+                             uint8_t *memory, size_t memory_len,
+                             uint8_t *tags, size_t tags_len,
+                             uint8_t *states, size_t states_len,
+                             uint8_t *data, size_t data_len,
+                             uint8_t *answer, size_t answer_len,
+                             uint8_t *record, size_t record_len);
 
 uint64_t walking_audit(uint64_t ports, uint64_t sets, uint64_t lines,
                        const uint8_t *memory, size_t memory_len,

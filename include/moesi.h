@@ -85,12 +85,11 @@
  * A device reads main memory behind the caches, so a word that a port wrote in
  * write back may not be there yet. For a model that starts fresh, and whose
  * memory and tables nobody but moesi_step and moesi_step_totals writes, this is
- * proved: a device read
- * of a line is right (it gives the word that a port would read) with no flush,
- * unless the line was written in write back, by a write or by a swap that
- * succeeded, since its last write-through access by any port (a read, a write or
- * a swap, successful or not) or its last device write or, without either, since
- * the start. The rule looks at these orders alone: a flush does not count as a
+ * proved: a device read of a line is right (it gives the word that a port would
+ * read) with no flush, unless the line was written in write back, by a write or
+ * by a swap that succeeded, since its last write-through access by any port (a
+ * read, a write or a swap, successful or not) or its last device write or,
+ * without either, since the start. The rule looks at these orders alone: a flush does not count as a
  * write-through access. What it does is store the word if the port that flushes
  * owns the line (state O or M); so once every holder that owns the line has
  * flushed it, memory has the word, until the next write, or swap that succeeds,
@@ -586,7 +585,7 @@ static inline int moesi_model_passes(const struct moesi_model *m)
  *
  * These read the tables and change nothing. What they say of words holds in a
  * model that passes the audit, as every model does that started fresh and that
- * nobody but moesi_model_step writes.
+ * nobody but moesi_model_step and moesi_model_step_totals writes.
  */
 
 /* For the looks below: the number of the port's entry for the line, where the model has both. */

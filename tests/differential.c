@@ -1,7 +1,6 @@
 /* The differential test: the library against the second model and the flat memory; one test per group. */
 
-#include "history.h"
-#include "traffic.h"
+#include "tester.h"
 
 #include <inttypes.h>
 #include <stdio.h>
@@ -11,21 +10,6 @@
 
 enum { LONGEST_HISTORY = 60000 };
 
-/* What a run of a group works with. */
-struct tester {
-    const char *name;
-    uint64_t seed;
-    uint64_t percent; /* of the usual number of calls */
-    uint64_t group;   /* the only group to run; GROUPS for all */
-    uint64_t run;     /* the only run of it; UINT64_MAX for all */
-    int first;        /* stop at the first group that fails */
-    int exact;        /* slices without guard bytes, for a memory checker */
-    struct generator generator;
-    struct pair pair;
-    struct history history;
-    struct traffic traffic;
-};
-
 /* A group of checks: its runs are numbered, and each has its own generator, so that one can be run alone. */
 struct group {
     const char *name;
@@ -34,16 +18,15 @@ struct group {
     int scaled; /* the number of runs goes with percent */
 };
 
-/* Says what a call outside a history showed. */
-static int report_call(struct tester *tester, const char *what, struct second_shape shape, uint64_t word,
-                       uint64_t operand)
+int report_call(struct tester *tester, const char *what, struct second_shape shape, uint64_t word, uint64_t operand)
 {
     const struct lent *slices = tester->pair.slices;
 
     printf("  %s: shape %" PRIu64 " %" PRIu64 " %" PRIu64 ", word 0x%" PRIx64 " operand 0x%" PRIx64 "\n", what,
            shape.ports, shape.sets, shape.lines, word, operand);
-    printf("  lengths: memory %zu, tags %zu, states %zu, data %zu, result %zu\n", slices[MEMORY].length,
-           slices[TAGS].length, slices[STATES].length, slices[DATA].length, slices[RESULT].length);
+    printf("  lengths: memory %zu, tags %zu, states %zu, data %zu, result %zu, record %zu\n", slices[MEMORY].length,
+           slices[TAGS].length, slices[STATES].length, slices[DATA].length, slices[RESULT].length,
+           slices[RECORD].length);
     printf("%s", tester->pair.difference);
     return 0;
 }
@@ -110,8 +93,7 @@ static int is_as_listed(struct tester *tester, size_t k)
     return history_end(&tester->history, pair);
 }
 
-/* Two ports, one set, two lines, memory 5 and 7. */
-static int begin_at_five_and_seven(struct tester *tester)
+int begin_at_five_and_seven(struct tester *tester)
 {
     static const struct second_shape shape = {2, 1, 2};
     struct history *history = &tester->history;
@@ -305,7 +287,7 @@ static uint64_t audit_every(struct second_shape shape)
     return shape.lines <= 128 ? 8 : 64;
 }
 
-static void begin_traffic(struct tester *tester, struct second_shape shape)
+void begin_traffic(struct tester *tester, struct second_shape shape)
 {
     struct second_model *start = &tester->history.start;
 
@@ -316,8 +298,7 @@ static void begin_traffic(struct tester *tester, struct second_shape shape)
     tester->history.audit_every = audit_every(shape);
 }
 
-/* A failed history: cut down, then printed. */
-static int report_history(struct tester *tester)
+int report_history(struct tester *tester)
 {
     printf("  order %zu of the history differs; cut down:\n", tester->history.count);
     history_shrink(&tester->history, &tester->pair);
@@ -340,8 +321,7 @@ static int add_orders(struct tester *tester, size_t orders)
     return 1;
 }
 
-/* Carries out orders from history.start. */
-static int run_history(struct tester *tester, int fresh, size_t orders)
+int run_history(struct tester *tester, int fresh, size_t orders)
 {
     struct pair *pair = &tester->pair;
     struct history *history = &tester->history;
@@ -800,16 +780,11 @@ static size_t wrong_length(struct generator *generator, size_t length, size_t en
     return chosen <= LENT_CAPACITY ? chosen : length + 1;
 }
 
-/* Lends the slices of a shape, some with other lengths; an empty one is sometimes NULL. */
-static void place_wrongly(struct tester *tester, struct second_shape shape, unsigned wrong)
+/* An empty slice is sometimes NULL. */
+void misplace(struct tester *tester, unsigned wrong)
 {
     static const size_t entry_bytes[4] = {8, 4, 1, 8};
-    struct second_model *start = &tester->history.start;
 
-    start->shape = shape;
-    traffic_fill_tables(&tester->generator, start);
-    tester->pair.second = *start;
-    pair_lend(&tester->pair, generator_below(&tester->generator, 8));
     for (unsigned s = MEMORY; s <= DATA; s++) {
         size_t length = tester->pair.slices[s].length;
 
@@ -821,6 +796,18 @@ static void place_wrongly(struct tester *tester, struct second_shape shape, unsi
         else
             pair_place(&tester->pair, (enum slice)s, length, generator_below(&tester->generator, 8));
     }
+}
+
+/* Lends the slices of a shape, some with other lengths. */
+static void place_wrongly(struct tester *tester, struct second_shape shape, unsigned wrong)
+{
+    struct second_model *start = &tester->history.start;
+
+    start->shape = shape;
+    traffic_fill_tables(&tester->generator, start);
+    tester->pair.second = *start;
+    pair_lend(&tester->pair, generator_below(&tester->generator, 8));
+    misplace(tester, wrong);
 }
 
 /* One slice, several or none has another length than the shape gives; the results too. */
@@ -839,7 +826,7 @@ static int empty_slices(struct tester *tester, uint64_t run)
     static const struct second_shape shapes[4] = {{1, 1, 1}, {8, 64, 4096}, {0, 0, 0}, {9, 1, 1}};
 
     for (unsigned nulls = 0; nulls < 32; nulls++) {
-        for (unsigned s = 0; s < SLICES; s++) {
+        for (unsigned s = 0; s <= RESULT; s++) {
             if (nulls >> s & 1)
                 pair_place_null(&tester->pair, (enum slice)s);
             else
@@ -921,6 +908,10 @@ static const struct group groups[] = {
     {"shapes just out of range", shapes_with_their_lengths, 110, 0},
     {"device writes, number by number", device_numbers, 1 + DEVICE_CASES, 0},
     {"what a device wrote is read", device_fills, 1000, 1},
+    {"totals, number by number", totals_numbers, 3, 0},
+    {"totals are the sums over the answers", totals_histories, 2000, 1},
+    {"records of any totals", totals_records, 12000, 1},
+    {"records and answers of other lengths", totals_lengths, 12000, 1},
 };
 
 enum { GROUPS = sizeof groups / sizeof groups[0] };
@@ -938,6 +929,7 @@ static int run_once(struct tester *tester, size_t number, uint64_t run)
     struct generator generator = {tester->seed * UINT64_C(0xD1342543DE82EF95) + number};
 
     tester->generator.state = generator_word(&generator) + run * UINT64_C(0xDA942042E4DD58B5);
+    tester->history.totals = 0;
     if (groups[number].run(tester, run))
         return 1;
     printf("  seed %" PRIu64 ", group %zu, run %" PRIu64 "; again: --seed %" PRIu64 " --group %zu --run %" PRIu64 "\n",
@@ -977,6 +969,25 @@ static int met_everything(const struct tally *tally)
     return met && tally->device_ports_beyond >= 100;
 }
 
+/* Whether steps with a record met everything: each kind and refusal, each total at its limits, and other lengths. */
+static int met_all_of_totals(const struct tally *tally)
+{
+    int met = tally->records_of_other_length >= 100 && tally->answers_of_other_length >= 20 &&
+              tally->nines_unanswered >= 20 && tally->totals_swaps[0] >= 20 && tally->totals_swaps[1] >= 20;
+
+    for (int refusal = 2; refusal <= 9; refusal++)
+        met = met && tally->totals_refusals[refusal] >= 5;
+    for (int kind = 0; kind < SECOND_KINDS; kind++)
+        met = met && tally->totals_kinds[kind] >= 20;
+    for (int writes = 0; writes < 3; writes++)
+        met = met && tally->totals_writes[writes] >= 20;
+    for (int place = 0; place < SECOND_TOTALS; place++) {
+        met = met && tally->brims[place] >= 20 && tally->last[place] > 0;
+        met = met && tally->full[0][place] >= 12 && tally->full[1][place] >= 12;
+    }
+    return met;
+}
+
 static void print_tally(const struct tally *tally, double seconds)
 {
     printf("  %" PRIu64 " calls in %.1f s; step refused 2 to 8:", tally->calls, seconds);
@@ -995,17 +1006,39 @@ static void print_tally(const struct tally *tally, double seconds)
            tally->device_masks[0], tally->device_masks[1], tally->device_masks[2], tally->device_ports_beyond);
 }
 
+static void print_numbers(const char *what, const uint64_t *numbers, int count)
+{
+    printf("%s", what);
+    for (int k = 0; k < count; k++)
+        printf(" %" PRIu64, numbers[k]);
+}
+
+static void print_totals_tally(const struct tally *tally)
+{
+    print_numbers("  with a record: refused 2 to 9:", tally->totals_refusals + 2, 8);
+    print_numbers("; accepted by kind:", tally->totals_kinds, SECOND_KINDS);
+    print_numbers("; swaps failed, succeeded:", tally->totals_swaps, 2);
+    print_numbers("\n  totals at 2^64 - 3, by place:", tally->brims, SECOND_TOTALS);
+    print_numbers("; brought above it:", tally->last, SECOND_TOTALS);
+    print_numbers("\n  alone at 2^64 - 2:", tally->full[0], SECOND_TOTALS);
+    print_numbers("; at 2^64 - 1:", tally->full[1], SECOND_TOTALS);
+    printf("\n  records of another length: %" PRIu64 "; answers: %" PRIu64 ", refused 9: %" PRIu64 "\n",
+           tally->records_of_other_length, tally->answers_of_other_length, tally->nines_unanswered);
+}
+
 static int run_all(struct tester *tester)
 {
     clock_t start = clock();
     int failed = 0, met;
 
-    for (size_t number = 0; number < GROUPS && !(failed && tester->first); number++)
+    for (size_t number = tester->from; number < GROUPS && !(failed && tester->first); number++)
         failed += !run_group(tester, number);
     print_tally(&tester->pair.tally, (double)(clock() - start) / CLOCKS_PER_SEC);
-    if (failed)
-        return 0;
-    met = met_everything(&tester->pair.tally);
+    print_totals_tally(&tester->pair.tally);
+    /* A run of some of the groups need not meet everything. */
+    if (failed || tester->from > 0)
+        return !failed;
+    met = met_everything(&tester->pair.tally) && met_all_of_totals(&tester->pair.tally);
     printf("%s %s: every refusal, count and verdict was met\n", met ? "ok" : "FAILED", tester->name);
     return met;
 }
@@ -1032,6 +1065,8 @@ static int take_option(struct tester *tester, const char *option, const char *va
         tester->percent = number;
     else if (strcmp(option, "--group") == 0 && number < GROUPS)
         tester->group = number;
+    else if (strcmp(option, "--from") == 0 && number < GROUPS)
+        tester->from = number;
     else if (strcmp(option, "--run") == 0)
         tester->run = number;
     else if (strcmp(option, "--first") == 0)
@@ -1051,8 +1086,8 @@ int main(int argc, char **argv)
     for (int k = 1; fine && k < argc; k += 2)
         fine = take_option(&tester, argv[k], argv[k + 1]);
     if (!fine) {
-        fprintf(stderr, "differential [--name NAME] [--seed N] [--percent N] [--group N] [--run N] [--first 1] "
-                        "[--exact 1]\n");
+        fprintf(stderr, "differential [--name NAME] [--seed N] [--percent N] [--group N] [--from N] [--run N] "
+                        "[--first 1] [--exact 1]\n");
         return 2;
     }
     if (!pair_open(&tester.pair) || !history_open(&tester.history, LONGEST_HISTORY))

@@ -69,6 +69,10 @@ static void check_constants(void)
     CHECK(MOESI_ACCEPTED == 0 && MOESI_REFUSED_TRACE == 1 && MOESI_REFUSED_SHAPE == 2);
     CHECK(MOESI_REFUSED_LENGTH == 3 && MOESI_REFUSED_KIND == 4 && MOESI_REFUSED_PORT == 5);
     CHECK(MOESI_REFUSED_LINE == 6 && MOESI_REFUSED_MASK == 7 && MOESI_REFUSED_ENTRY == 8);
+    CHECK(MOESI_REFUSED_TOTALS == 9);
+    CHECK(MOESI_KINDS == 6 && MOESI_RECORD_BYTES == 80 && MOESI_MOST_TOTAL == UINT64_C(18446744073709551613));
+    CHECK(MOESI_TOTAL_ACCEPTED(MOESI_READ) == 0 && MOESI_TOTAL_ACCEPTED(MOESI_DEVICE_WRITE) == 5);
+    CHECK(MOESI_TOTAL_REFUSED == 6 && MOESI_TOTAL_READS == 7 && MOESI_TOTAL_WRITES == 8 && MOESI_TOTAL_SWAPS == 9);
 }
 
 static void check_sizes(void)
@@ -118,6 +122,47 @@ static void check_answer(void)
     CHECK(answer.memory_writes == UINT64_C(0x2726252423222120));
 }
 
+static void check_totals(void)
+{
+    uint8_t bytes[81];
+    struct moesi_totals totals;
+
+    for (size_t k = 0; k < 81; k++)
+        bytes[k] = (uint8_t)k;
+    /* From byte 1 on, so that the record lies at no alignment. */
+    totals = moesi_read_totals(bytes + 1);
+    CHECK(totals.accepted[0] == UINT64_C(0x0807060504030201) && totals.accepted[1] == UINT64_C(0x100F0E0D0C0B0A09));
+    CHECK(totals.accepted[2] == UINT64_C(0x1817161514131211) && totals.accepted[3] == UINT64_C(0x201F1E1D1C1B1A19));
+    CHECK(totals.accepted[4] == UINT64_C(0x2827262524232221) && totals.accepted[5] == UINT64_C(0x302F2E2D2C2B2A29));
+    CHECK(totals.refused == UINT64_C(0x3837363534333231));
+    CHECK(totals.memory_reads == UINT64_C(0x403F3E3D3C3B3A39));
+    CHECK(totals.memory_writes == UINT64_C(0x4847464544434241));
+    CHECK(totals.swaps == UINT64_C(0x504F4E4D4C4B4A49));
+}
+
+/* A step with a record on the smallest shape: the name links, and the totals are read. */
+static void check_step_totals(void)
+{
+    uint8_t memory[8] = {0}, tags[4] = {0}, states[1] = {0}, data[8] = {0}, answer[40];
+    uint8_t record[MOESI_RECORD_BYTES] = {0};
+    struct moesi_totals totals;
+
+    CHECK(moesi_step_totals(1, 1, 1, moesi_order_swap_lower(0, 0, MOESI_WRITE_THROUGH, 0), 3, memory, 8, tags, 4,
+                            states, 1, data, 8, answer, 40, record, sizeof record) == MOESI_ACCEPTED);
+    totals = moesi_read_totals(record);
+    CHECK(totals.accepted[MOESI_SWAP] == 1 && totals.swaps == 1 && totals.refused == 0);
+    CHECK(totals.memory_reads == 1 && totals.memory_writes == 1 && moesi_get_word(memory, 0) == 3);
+    CHECK(moesi_step_totals(1, 1, 1, 7, 0, memory, 8, tags, 4, states, 1, data, 8, answer, 40, record,
+                            sizeof record) == MOESI_REFUSED_KIND);
+    CHECK(moesi_read_totals(record).refused == 1);
+    CHECK(moesi_step_totals(1, 1, 1, 7, 0, memory, 8, tags, 4, states, 1, data, 8, answer, 40, NULL, 0) ==
+          MOESI_REFUSED_LENGTH);
+    moesi_put_word(record, MOESI_TOTAL_WRITES, MOESI_MOST_TOTAL + 1);
+    CHECK(moesi_step_totals(0, 0, 0, 0, 0, NULL, 0, NULL, 0, NULL, 0, NULL, 0, answer, 40, record, sizeof record) ==
+          MOESI_REFUSED_TOTALS);
+    CHECK(moesi_read_answer(answer).refusal == MOESI_REFUSED_TOTALS && moesi_read_totals(record).refused == 1);
+}
+
 /* The three calls on the smallest shape: the names link, and an answer is read. */
 static void check_calls(void)
 {
@@ -151,6 +196,8 @@ int main(void)
     check_sizes();
     check_words();
     check_answer();
+    check_totals();
     check_calls();
+    check_step_totals();
     return failures == 0 ? 0 : 1;
 }

@@ -32,11 +32,23 @@ static int audit(const struct history *history, struct pair *pair)
     return 1;
 }
 
+/* Lends the record. */
+static void begin_totals(struct history *history, struct pair *pair)
+{
+    uint8_t record[SECOND_RECORD_BYTES];
+
+    memcpy(history->totals_due, history->totals_start, sizeof history->totals_due);
+    second_encode_totals(history->totals_start, record);
+    pair_place_record(pair, record, sizeof record, history->skew + 3);
+}
+
 int history_begin(struct history *history, struct pair *pair)
 {
     history->count = 0;
     pair->second = history->start;
     pair_lend(pair, history->skew);
+    if (history->totals)
+        begin_totals(history, pair);
     if (!history->fresh)
         return audit(history, pair);
     flat_start(&history->flat, history->start.shape, history->start.memory);
@@ -48,6 +60,39 @@ static void say_flat_differs(struct pair *pair, const char *what, uint64_t flat,
     snprintf(pair->difference, sizeof pair->difference,
              "  the flat memory's %s is 0x%" PRIx64 ", the library's and the second model's 0x%" PRIx64 "\n", what,
              flat, model);
+}
+
+/* Adds the library's last answer up, from its five numbers and the order's kind alone. Refusal 9 counts nowhere. */
+static void add_up(struct history *history, uint64_t word)
+{
+    uint64_t *due = history->totals_due;
+    struct second_answer given = history->given;
+
+    if (given.refusal == 0)
+        due[word & 7] += 1;
+    else if (given.refusal != 9)
+        due[6] += 1;
+    due[7] += given.reads;
+    due[8] += given.writes;
+    due[9] += given.swapped;
+}
+
+/* Whether the lent record has the sums over the answers so far. */
+static int totals_are_sums(struct history *history, struct pair *pair, uint64_t word)
+{
+    uint64_t totals[SECOND_TOTALS];
+
+    add_up(history, word);
+    second_decode_totals(totals, pair->slices[RECORD].bytes);
+    for (unsigned place = 0; place < SECOND_TOTALS; place++) {
+        if (totals[place] != history->totals_due[place]) {
+            snprintf(pair->difference, sizeof pair->difference,
+                     "  total %u is %" PRIu64 ", the sum over the answers %" PRIu64 "\n", place, totals[place],
+                     history->totals_due[place]);
+            return 0;
+        }
+    }
+    return 1;
 }
 
 /* Counts an accepted device write, by the holders before it. */
@@ -90,9 +135,13 @@ int history_add(struct history *history, struct pair *pair, uint64_t word, uint6
     if (history->count < history->room)
         history->orders[history->count] = order;
     history->count++;
-    if (!pair_step(pair, word, operand))
+    if (!(history->totals ? pair_step_totals : pair_step)(pair, word, operand))
         return 0;
-    if (history->fresh && !agrees_with_flat(history, pair, order))
+    history->given = second_decode_answer(pair->slices[RESULT].bytes);
+    if (history->totals && !totals_are_sums(history, pair, word))
+        return 0;
+    /* An order refused 9 changes nothing, so that the flat memory is not fed it. */
+    if (history->fresh && pair->expected.refusal != 9 && !agrees_with_flat(history, pair, order))
         return 0;
     if (history->fresh && pair->expected.refusal == 0 && (word & 7) == SECOND_DEVICE_WRITE)
         count_device_write(pair, order, holders);
@@ -198,6 +247,9 @@ static void print_start(const struct history *history)
 
     printf("  shape %" PRIu64 " %" PRIu64 " %" PRIu64 ", %s start\n", start->shape.ports, start->shape.sets,
            start->shape.lines, history->fresh ? "fresh" : "given");
+    for (unsigned place = 0; place < SECOND_TOTALS && history->totals; place++)
+        printf("%s%" PRIu64 "%s", place == 0 ? "  record " : " ", history->totals_start[place],
+               place + 1 == SECOND_TOTALS ? "\n" : "");
     for (size_t line = 0; line < start->shape.lines && start->shape.lines <= 16; line++)
         printf("  memory %zu: 0x%" PRIx64 "\n", line, start->memory[line]);
     for (size_t entry = 0; entry < entries && entries <= 16 && !history->fresh; entry++)

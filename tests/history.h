@@ -15,6 +15,10 @@ struct history {
     struct second_model start;
     unsigned skew;
     int fresh; /* a call of fresh comes first, and the flat memory is fed the same orders */
+    int totals; /* the orders are counted in a record, which starts with these totals */
+    uint64_t totals_start[SECOND_TOTALS];
+    uint64_t totals_due[SECOND_TOTALS]; /* those and the sums over the library's answers */
+    struct second_answer given;         /* the library's answer to the last order */
     uint64_t audit_every;
     size_t count;
     size_t room;

@@ -1,4 +1,4 @@
-/* Checks struct moesi_model of include/moesi.h: its calls against the three under it, its looks against orders. */
+/* Checks struct moesi_model of include/moesi.h: its calls against those under it, its looks against orders. */
 
 #include "generator.h"
 #include "moesi.h"
@@ -51,7 +51,7 @@ static void check_at(int line, int holds, const char *what)
 
 /* What has come up, so that no check is passed by looking at nothing. */
 static unsigned refusals_seen[9], states_seen[256], swaps_seen, clean_seen, dirty_seen, passed_seen, failed_seen;
-static unsigned device_writes_seen;
+static unsigned device_writes_seen, counted_seen[10], full_seen, other_length_seen;
 
 /* Lent bytes, with guard bytes before and after them. */
 struct lent {
@@ -218,6 +218,52 @@ static void step(struct both *both, struct moesi_model *m, uint64_t word, uint64
     compare(both);
     refusals_seen[refusal < 9 ? refusal : 0]++;
     swaps_seen += (unsigned)answer.swapped;
+}
+
+/* A record twice: as it is lent to the struct, between guard bytes, and as it is lent to the call. */
+struct records {
+    uint8_t lent[GUARD + 96 + GUARD], own[96];
+    size_t len;
+};
+
+/* Totals as the places of document 02 have them: kinds 0 to 5, refused, reads, writes, swaps. */
+static void lend_records(struct records *records, const uint64_t *totals, size_t len)
+{
+    memset(records->lent, GUARD_BYTE, sizeof records->lent);
+    memset(records->own, GUARD_BYTE, sizeof records->own);
+    for (size_t k = 0; k < 80; k++)
+        records->own[k] = (uint8_t)(totals[k / 8] >> 8 * (k % 8) & 255);
+    memcpy(records->lent + GUARD, records->own, len);
+    records->len = len;
+}
+
+static int records_agree(const struct records *records)
+{
+    for (size_t k = 0; k < GUARD; k++)
+        if (records->lent[k] != GUARD_BYTE || records->lent[GUARD + records->len + k] != GUARD_BYTE)
+            return 0;
+    return memcmp(records->lent + GUARD, records->own, records->len) == 0;
+}
+
+/* One order both ways with a record each, which then agree; also where they are refused for a total or their length. */
+static struct moesi_answer step_totals(struct both *both, struct moesi_model *m, uint64_t word, uint64_t operand,
+                                       struct records *records)
+{
+    uint8_t bytes[40];
+    size_t len = records->len;
+    struct moesi_answer answer =
+        moesi_model_step_totals(m, word, operand, len > 0 ? records->lent + GUARD : NULL, len);
+    uint64_t refusal = moesi_step_totals(both->shape.ports, both->shape.sets, both->shape.lines, word, operand,
+                                         both->memory, memory_bytes(both->shape), both->tags, 4 * both->entries,
+                                         both->states, both->entries, both->data, 8 * both->entries, bytes,
+                                         sizeof bytes, records->own, len);
+
+    CHECK(answer.refusal == refusal && answer.refusal == moesi_get_word(bytes, 0));
+    CHECK(answer.value == moesi_get_word(bytes, 1) && answer.swapped == moesi_get_word(bytes, 2));
+    CHECK(answer.memory_reads == moesi_get_word(bytes, 3) && answer.memory_writes == moesi_get_word(bytes, 4));
+    CHECK(records_agree(records));
+    compare(both);
+    return answer;
 }
 
 /* A line: few are favoured, so that ports meet and entries are fought for. */
@@ -487,6 +533,87 @@ static void check_device_writes(void)
     }
 }
 
+/* The totals that the header reads out of the struct's record are due. */
+static void check_totals_are(const struct records *records, const uint64_t *due)
+{
+    struct moesi_totals totals = moesi_read_totals(records->lent + GUARD);
+
+    for (size_t kind = 0; kind < 6; kind++) {
+        CHECK(totals.accepted[kind] == due[kind]);
+        CHECK(moesi_get_word(records->lent + GUARD, MOESI_TOTAL_ACCEPTED(kind)) == due[kind]);
+    }
+    CHECK(totals.refused == due[6] && moesi_get_word(records->lent + GUARD, MOESI_TOTAL_REFUSED) == due[6]);
+    CHECK(totals.memory_reads == due[7] && moesi_get_word(records->lent + GUARD, MOESI_TOTAL_READS) == due[7]);
+    CHECK(totals.memory_writes == due[8] && moesi_get_word(records->lent + GUARD, MOESI_TOTAL_WRITES) == due[8]);
+    CHECK(totals.swaps == due[9] && moesi_get_word(records->lent + GUARD, MOESI_TOTAL_SWAPS) == due[9]);
+}
+
+/* Orders with one record from zeros: the totals are the sums over the answers. */
+static void run_with_record(struct both *both)
+{
+    static struct records records;
+    uint64_t due[10] = {0};
+
+    lend_records(&records, due, MOESI_RECORD_BYTES);
+    for (unsigned k = 0; k < 2000 && !failures; k++) {
+        uint64_t word = random_order(both->shape);
+        struct moesi_answer answer = step_totals(both, &both->m, word, random_word(), &records);
+
+        due[answer.refusal == 0 ? word & 7 : 6]++;
+        due[7] += answer.memory_reads;
+        due[8] += answer.memory_writes;
+        due[9] += answer.swapped;
+        check_totals_are(&records, due);
+    }
+    for (size_t place = 0; place < 10; place++)
+        counted_seen[place] += due[place] > 0;
+}
+
+/* Orders on records with a total at its limit or above, and on records of every other length, which are left alone. */
+static void run_with_odd_records(struct both *both)
+{
+    static struct records records;
+
+    for (unsigned k = 0; k < 200 && !failures; k++) {
+        uint64_t totals[10] = {1, 2, 3, 4, 5, 6, 7, 8, 9, 10};
+        struct moesi_answer answer;
+
+        totals[k % 10] = MOESI_MOST_TOTAL + k / 10 % 3;
+        lend_records(&records, totals, MOESI_RECORD_BYTES);
+        answer = step_totals(both, &both->m, random_order(both->shape), random_word(), &records);
+        CHECK((answer.refusal == MOESI_REFUSED_TOTALS) == (k / 10 % 3 > 0));
+        if (answer.refusal == MOESI_REFUSED_TOTALS)
+            check_totals_are(&records, totals);
+        full_seen += answer.refusal == MOESI_REFUSED_TOTALS;
+        if (k >= 97 || k == MOESI_RECORD_BYTES)
+            continue;
+        lend_records(&records, totals, k);
+        answer = step_totals(both, &both->m, random_order(both->shape), random_word(), &records);
+        CHECK(answer.refusal == MOESI_REFUSED_LENGTH && answer.value == 0);
+        other_length_seen++;
+    }
+}
+
+/* The names of a record's numbers; those of its places are looked at with the totals. */
+static void check_names(void)
+{
+    CHECK(MOESI_KINDS == 6 && MOESI_RECORD_BYTES == 80 && MOESI_REFUSED_TOTALS == 9);
+    CHECK(MOESI_MOST_TOTAL == UINT64_C(0xFFFFFFFFFFFFFFFD));
+}
+
+/* Steps with a record through the struct. */
+static void check_totals(void)
+{
+    for (unsigned s = 0; s < SHAPES && !failures; s++) {
+        start(&first, shapes[s]);
+        run_with_record(&first);
+        run_with_odd_records(&first);
+    }
+    for (size_t place = 0; place < 10 && !failures; place++)
+        CHECK(counted_seen[place] == SHAPES);
+    CHECK(failures || (full_seen > 500 && other_length_seen > 500));
+}
+
 /* A copy of the struct is the same model; a second model, over memory and a room of its own, is another one. */
 static void check_copies(void)
 {
@@ -681,6 +808,31 @@ static void check_zeros(void)
     }
 }
 
+/* A struct of zeros with a record: refused 2 and counted so, or 9 where a total is full. */
+static void check_zeros_with_record(void)
+{
+    static struct moesi_model zeros;
+    static struct records records;
+    uint64_t due[10] = {0};
+
+    lend_records(&records, due, MOESI_RECORD_BYTES);
+    for (uint64_t k = 1; k < 9; k++) {
+        CHECK(moesi_model_step_totals(&zeros, k - 1, 5, records.lent + GUARD, MOESI_RECORD_BYTES).refusal == 2);
+        due[6] = k;
+        check_totals_are(&records, due);
+    }
+    CHECK(moesi_model_step_totals(&zeros, 0, 5, records.lent + GUARD, 79).refusal == 2);
+    check_totals_are(&records, due);
+    /* NULL is tried only if the length is handed on. */
+    if (failures)
+        return;
+    CHECK(moesi_model_step_totals(&zeros, 0, 5, NULL, 0).refusal == 2);
+    due[3] = UINT64_MAX;
+    lend_records(&records, due, MOESI_RECORD_BYTES);
+    CHECK(moesi_model_step_totals(&zeros, 0, 5, records.lent + GUARD, MOESI_RECORD_BYTES).refusal == 9);
+    check_totals_are(&records, due);
+}
+
 /* Every refusal that a step through a struct can give, swaps that succeed, clean lines and others have come up. */
 static void check_seen(void)
 {
@@ -694,8 +846,8 @@ static void check_seen(void)
 int main(void)
 {
     static void (*const checks[])(void) = {
-        check_sizes,         check_tags,   check_refusals, check_orders, check_copies,
-        check_device_writes, check_damage, check_seen,     check_zeros,
+        check_sizes,  check_tags,   check_names,         check_refusals, check_zeros_with_record, check_totals,
+        check_orders, check_copies, check_device_writes, check_damage,   check_seen,              check_zeros,
     };
 
     /* A group that fails is the last one: the others use what it found broken. */

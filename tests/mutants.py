@@ -1,5 +1,5 @@
 #!/usr/bin/env python3
-"""Wrong versions of the models, the trace program and the header, which the tests have to catch, into a folder."""
+"""Wrong versions of the models, the two programs and the header, which the tests have to catch, into a folder."""
 
 import pathlib
 import sys
@@ -449,6 +449,146 @@ WALKING = [
      "    if (verdict_len > VERDICT_BYTES)\n        *verdict = 0;\n    if (verdict_len != VERDICT_BYTES)\n        return refusal ? refusal : 3;"),
 ]
 
+# Of the step with a record in the walking model. The groups of random records catch these.
+FULL = "    if (is_full(record))\n        return answer_len == ANSWER_BYTES ? refuse(answer, 9) : 9;\n"
+SLICES = "check_slices(ports, sets, lines, memory_len, tags_len, states_len, data_len)"
+STEP = ("walking_step(ports, sets, lines, word, operand, memory, memory_len, tags, tags_len, states, states_len,\n"
+        "                           data, data_len, answer, answer_len);\n")
+TOO_HIGH = "        if (load64(record + 8 * k) > UINT64_MAX - 2)\n"
+ANOTHER_LENGTH = "    if (record_len != RECORD_BYTES) {\n"
+REFUSED = "        add_to(record, REFUSED, 1);\n"
+ACCEPTED = "    add_to(record, word & 7, 1);\n"
+SWAPS = "    add_to(record, SWAPS, load64(answer + 16));\n"
+READS = "    add_to(record, READS, load64(answer + 24));\n"
+WRITES = "    add_to(record, WRITES, load64(answer + 32));\n"
+SUM = "    store64(record + 8 * place, load64(record + 8 * place) + more);"
+
+
+def unless(condition):
+    """Refusal 9 under a condition more."""
+    return FULL.replace("is_full(record)", f"is_full(record) && {condition}")
+
+
+TOTALS = [
+    # Refusal 9 and what comes before it.
+    ("9 is given after 2", FULL, unless(f"{SLICES} != 2")),
+    ("9 is given after 3 of memory and the tables", FULL, unless(f"{SLICES} != 3")),
+    ("9 is given after 3 of the answer", FULL, unless("answer_len == ANSWER_BYTES")),
+    ("9 is given after 4", FULL, unless("(word & 7) <= DEVICE_WRITE")),
+    ("9 is given after 5", FULL, unless("((word & 7) >= DEVICE_READ || (word >> 4 & 15) < ports)")),
+    ("9 is given after 6", FULL, unless("(word >> 16 & 65535) < lines")),
+    ("9 is given after 7",
+     FULL, unless("((word & 7) != SWAP || (word >> 8 & 255) == 0x0F || (word >> 8 & 255) == 0xF0)")),
+    ("9 is given after 8",
+     FULL,
+     "    if (is_full(record)) {\n"
+     "        struct walk w = {.states = states, .tags = tags, .ports = ports, .sets = sets, .lines = lines};\n\n"
+     f"        if (answer_len == ANSWER_BYTES && !{SLICES} && !take_apart(&w, word) && w.kind != DEVICE_READ &&\n"
+     "            walk_ports(&w))\n            return refuse(answer, 8);\n"
+     "        return answer_len == ANSWER_BYTES ? refuse(answer, 9) : 9;\n    }\n"),
+    ("9 is never given", FULL, ""),
+    ("9 is not answered", FULL, "    if (is_full(record))\n        return 9;\n"),
+    ("9 writes an answer of another length", FULL, FULL.replace("answer_len ==", "answer_len >=")),
+    ("9 with an answer of another length is 3", FULL, FULL.replace(": 9;", ": 3;")),
+    ("9 is counted as refused",
+     FULL, FULL.replace("record))\n", "record)) {\n        add_to(record, REFUSED, 1);\n") + "    }\n"),
+    ("9 is counted under the order's kind",
+     FULL, FULL.replace("record))\n", "record)) {\n        add_to(record, word & 7, 1);\n") + "    }\n"),
+    ("9 clears the record",
+     FULL, FULL.replace("record))\n", "record)) {\n        memset(record, 0, record_len);\n") + "    }\n"),
+    ("an order refused 9 is carried out", FULL, "    if (is_full(record)) {\n        " + STEP + FULL + "    }\n"),
+    ("9 is counted as refused where 2 or 3 applies too",
+     FULL, "    if (is_full(record)) {\n        add_to(record, REFUSED, !!" + SLICES + ");\n" + FULL + "    }\n"),
+    # Which totals are too high.
+    ("a total of 2^64 - 2 is let in", TOO_HIGH, TOO_HIGH.replace("- 2", "- 1")),
+    ("a total of 2^64 - 3 is refused", TOO_HIGH, TOO_HIGH.replace("> UINT64_MAX - 2", ">= UINT64_MAX - 2")),
+    ("a total of 2^64 - 1 is let in", TOO_HIGH, TOO_HIGH.replace("> UINT64_MAX - 2", "== UINT64_MAX - 1")),
+    ("a total from 2^63 on is refused", TOO_HIGH, TOO_HIGH.replace("> UINT64_MAX - 2", "> UINT64_MAX >> 1")),
+    ("32 bits of a total are looked at",
+     TOO_HIGH, "        if ((uint32_t)load64(record + 8 * k) > UINT32_MAX - 2)\n"),
+    ("totals are looked at together", "    for (size_t k = 0; bits >> 63 && k",
+     "    if (bits > UINT64_MAX - 2)\n        return 1;\n    for (size_t k = 0; bits >> 63 && k"),
+    *((f"the total of {name} is not looked at", TOO_HIGH, TOO_HIGH.replace("(load64", f"(k != {place} && load64", 1))
+      for name, place in (("reads by a port", "READ"), ("writes by a port", "WRITE"), ("swaps", "SWAP"),
+                          ("flushes", "FLUSH"), ("device reads", "DEVICE_READ"), ("device writes", "DEVICE_WRITE"),
+                          ("refused orders", "REFUSED"), ("memory reads", "READS"), ("memory writes", "WRITES"),
+                          ("swaps that succeeded", "SWAPS"))),
+    # What is added.
+    ("a failed swap is counted as one that succeeded", SWAPS, "    add_to(record, SWAPS, (word & 7) == SWAP);\n"),
+    ("swaps that succeeded are not counted", SWAPS, ""),
+    ("a swap's value is counted", SWAPS, SWAPS.replace("16", "8")),
+    ("memory reads and writes change places", READS + WRITES, READS.replace("24", "32") + WRITES.replace("32", "24")),
+    ("memory reads are not counted", READS, ""),
+    ("memory writes are not counted", WRITES, ""),
+    ("two memory writes count as one", WRITES, WRITES.replace("load64(answer + 32)", "load64(answer + 32) != 0")),
+    ("a device write's memory write is not counted",
+     WRITES, "    if ((word & 7) != DEVICE_WRITE)\n    " + WRITES),
+    ("a device write's memory read is not counted", READS, "    if ((word & 7) != DEVICE_WRITE)\n    " + READS),
+    ("a device read's memory read is not counted", READS, "    if ((word & 7) != DEVICE_READ)\n    " + READS),
+    ("a flush's memory write is not counted", WRITES, "    if ((word & 7) != FLUSH)\n    " + WRITES),
+    ("a swap that fails is not counted under its kind",
+     ACCEPTED, "    if ((word & 7) != SWAP || load64(answer + 16))\n    " + ACCEPTED),
+    ("accepted orders are not counted", ACCEPTED, ""),
+    ("accepted orders are counted twice", ACCEPTED, ACCEPTED * 2),
+    ("device writes are counted as writes",
+     ACCEPTED, "    add_to(record, (word & 7) == DEVICE_WRITE ? WRITE : word & 7, 1);\n"),
+    ("device reads are counted as reads",
+     ACCEPTED, "    add_to(record, (word & 7) == DEVICE_READ ? READ : word & 7, 1);\n"),
+    ("orders are counted under the kind after theirs", ACCEPTED, ACCEPTED.replace("word & 7", "(word & 7) + 1")),
+    ("the mode is counted with the kind", ACCEPTED, ACCEPTED.replace("word & 7", "(word & 15) % TOTALS")),
+    # Refused orders.
+    ("a refused order is counted under its kind", REFUSED, REFUSED.replace("REFUSED", "word & 7")),
+    ("a refused order is counted under its kind too",
+     REFUSED, REFUSED + "        if ((word & 7) <= DEVICE_WRITE)\n            add_to(record, word & 7, 1);\n"),
+    ("refused orders are not counted", REFUSED, ""),
+    ("refused orders are counted twice", REFUSED, REFUSED * 2),
+    *((f"refusal {number} is not counted", REFUSED, f"        if (refusal != {number})\n    " + REFUSED)
+      for number in range(2, 9)),
+    ("a call with an answer of another length is not counted",
+     REFUSED, "        if (answer_len == ANSWER_BYTES)\n    " + REFUSED),
+    ("the refusal's number is counted", REFUSED, REFUSED.replace("1)", "refusal)")),
+    # Records of another length.
+    ("a record of 88 bytes is let in",
+     ANOTHER_LENGTH, "    if (record_len != RECORD_BYTES && record_len != RECORD_BYTES + 8) {\n"),
+    ("a longer record is let in", ANOTHER_LENGTH, ANOTHER_LENGTH.replace("!=", "<")),
+    ("a shorter record is let in", ANOTHER_LENGTH, ANOTHER_LENGTH.replace("!= RECORD_BYTES", "> RECORD_BYTES")),
+    ("part of a number is let in", ANOTHER_LENGTH, ANOTHER_LENGTH.replace("record_len", "record_len / 8 * 8")),
+    ("no record is let in", ANOTHER_LENGTH, "    if (record_len == 0)\n        return " + STEP + ANOTHER_LENGTH),
+    ("a record of another length is written",
+     ANOTHER_LENGTH,
+     ANOTHER_LENGTH + "        if (record_len > RECORD_BYTES)\n            add_to(record, REFUSED, 1);\n"),
+    ("a longer record may be full",
+     ANOTHER_LENGTH, FULL.replace("(is_full", "(record_len > RECORD_BYTES && is_full") + ANOTHER_LENGTH),
+    ("3 of the record is given before 2", "        refusal = refusal == 2 ? 2 : 3;\n", "        refusal = 3;\n"),
+    ("3 of the record is given after 4 to 7",
+     "        refusal = refusal == 2 ? 2 : 3;\n",
+     "        struct walk w = {.ports = ports, .lines = lines};\n\n"
+     "        if (!refusal && answer_len == ANSWER_BYTES)\n            refusal = take_apart(&w, word);\n"
+     "        refusal = refusal ? refusal : 3;\n"),
+    ("3 of the record is given after 8",
+     "        refusal = refusal == 2 ? 2 : 3;\n",
+     "        struct walk w = {.states = states, .tags = tags, .ports = ports, .sets = sets, .lines = lines};\n\n"
+     "        if (!refusal && answer_len == ANSWER_BYTES && !take_apart(&w, word) && w.kind != DEVICE_READ)\n"
+     "            refusal = walk_ports(&w);\n        refusal = refusal ? refusal : 3;\n"),
+    ("3 of the record is not answered",
+     "        return answer_len == ANSWER_BYTES ? refuse(answer, refusal) : refusal;\n", "        return refusal;\n"),
+    ("3 of the record writes an answer of another length",
+     "        return answer_len == ANSWER_BYTES ? refuse(answer, refusal) : refusal;\n",
+     "        return answer_len >= ANSWER_BYTES ? refuse(answer, refusal) : refusal;\n"),
+    ("an order with a record of another length is carried out",
+     ANOTHER_LENGTH, ANOTHER_LENGTH + "        " + STEP),
+    # The bytes of a record.
+    ("totals are kept big-endian",
+     SUM,
+     "    store64(record + 8 * place, __builtin_bswap64(__builtin_bswap64(load64(record + 8 * place)) + more));"),
+    ("totals are kept in 32 bits", SUM, SUM.replace("load64(record + 8 * place) + more",
+                                                    "(uint32_t)(load64(record + 8 * place) + more)")),
+    ("totals stop at 2^64 - 3",
+     SUM, "    if (load64(record + 8 * place) < UINT64_MAX - 2)\n    " + SUM),
+    ("a write beyond the record", SUM, SUM + "\n    record[RECORD_BYTES] = 0;"),
+    ("a write before the record", SUM, SUM + "\n    record[-1] = 0;"),
+]
+
 # The same slip in the walking model and in the second model: only the flat memory and the audit can tell.
 BOTH = [
     ("an evicted O dropped",
@@ -671,6 +811,87 @@ LISTED = [
      "        answer.refusal = 8;\n    if (answer.refusal != 0)\n        return answer;\n"),
 ]
 
+# The same slip of totals in both models: the totals worked out by hand can tell.
+SECOND_TOO_HIGH = "        if (decode_word(record + 8 * place) > UINT64_C(18446744073709551613))\n"
+SECOND_PLACES = "    for (unsigned place = 0; place < SECOND_TOTALS && record_len == SECOND_RECORD_BYTES; place++) {\n"
+SECOND_ACCEPTED = "        return answer.refusal == 0 && second_take_apart(word, 0).kind == place;\n"
+SECOND_COUNT = "encode_word(decode_word(record + 8 * place) + second_adds(place, word, answer), record + 8 * place);\n"
+OTHER_REFUSAL = "second_call_refusal(shape, lengths, SECOND_ANSWER_BYTES)"
+COUNTED = [
+    ("9 is given after 2",
+     FULL, unless(f"{SLICES} != 2"),
+     SECOND_TOO_HIGH, SECOND_TOO_HIGH.replace("613))", f"613) &&\n            {OTHER_REFUSAL} != 2)")),
+    ("9 is given after 3",
+     FULL, unless(f"({SLICES} == 2 || (answer_len == ANSWER_BYTES && !{SLICES}))"),
+     SECOND_TOO_HIGH, SECOND_TOO_HIGH.replace("613))", f"613) &&\n            {OTHER_REFUSAL} != 3)")),
+    ("9 is counted as refused",
+     FULL, FULL.replace("record))\n", "record)) {\n        add_to(record, REFUSED, 1);\n") + "    }\n",
+     "    if (answer.refusal == 9)\n        return 0;\n", ""),
+    ("a total of 2^64 - 2 is let in",
+     TOO_HIGH, TOO_HIGH.replace("- 2", "- 1"), SECOND_TOO_HIGH, SECOND_TOO_HIGH.replace("613", "614")),
+    ("a total of 2^64 - 3 is refused",
+     TOO_HIGH, TOO_HIGH.replace("- 2", "- 3"), SECOND_TOO_HIGH, SECOND_TOO_HIGH.replace("613", "612")),
+    *((f"the total of {name} is not looked at",
+       TOO_HIGH, TOO_HIGH.replace("(load64", f"(k != {place} && load64", 1),
+       SECOND_TOO_HIGH, SECOND_TOO_HIGH.replace("(decode_word", f"(place != {place} && decode_word"))
+      for name, place in (("reads by a port", 0), ("device writes", 5), ("refused orders", 6), ("memory reads", 7),
+                          ("memory writes", 8), ("swaps that succeeded", 9))),
+    ("a longer record may be full",
+     ANOTHER_LENGTH, FULL.replace("(is_full", "(record_len > RECORD_BYTES && is_full") + ANOTHER_LENGTH,
+     SECOND_PLACES, SECOND_PLACES.replace("record_len ==", "record_len >=")),
+    ("a record of 88 bytes is let in, and nothing is counted",
+     ANOTHER_LENGTH, "    if (record_len == RECORD_BYTES + 8)\n        return " + STEP + ANOTHER_LENGTH,
+     "    return record_len == SECOND_RECORD_BYTES ? 0 : 3;\n",
+     "    return record_len == SECOND_RECORD_BYTES || record_len == SECOND_RECORD_BYTES + 8 ? 0 : 3;\n"),
+    ("no record is let in",
+     ANOTHER_LENGTH, "    if (record_len == 0)\n        return " + STEP + ANOTHER_LENGTH,
+     "    return record_len == SECOND_RECORD_BYTES ? 0 : 3;\n",
+     "    return record_len == SECOND_RECORD_BYTES || record_len == 0 ? 0 : 3;\n"),
+    ("3 of the record is given before 2",
+     "        refusal = refusal == 2 ? 2 : 3;\n", "        refusal = 3;\n",
+     f"    refusal = {OTHER_REFUSAL};\n",
+     f"    refusal = record_len != SECOND_RECORD_BYTES ? 3 : {OTHER_REFUSAL};\n"),
+    ("refusals 2 and 3 are not counted",
+     REFUSED, "        if (refusal > 3)\n    " + REFUSED,
+     "return answer.refusal != 0;\n    case SECOND_TOTAL_READS",
+     "return answer.refusal > 3;\n    case SECOND_TOTAL_READS"),
+    ("refused orders are not counted",
+     REFUSED, "", "return answer.refusal != 0;\n    case SECOND_TOTAL_READS", "return 0;\n    case SECOND_TOTAL_READS"),
+    ("a refused order is counted under its kind too",
+     REFUSED, REFUSED + "        if ((word & 7) <= DEVICE_WRITE)\n            add_to(record, word & 7, 1);\n",
+     SECOND_ACCEPTED, SECOND_ACCEPTED.replace("answer.refusal == 0 && ", "")),
+    ("a failed swap is counted as one that succeeded",
+     SWAPS, "    add_to(record, SWAPS, (word & 7) == SWAP);\n",
+     "return answer.swapped;\n", "return answer.refusal == 0 && second_take_apart(word, 0).kind == SECOND_SWAP;\n"),
+    ("memory reads and writes change places",
+     READS + WRITES, READS.replace("24", "32") + WRITES.replace("32", "24"),
+     "return answer.reads;\n    case SECOND_TOTAL_WRITES: return answer.writes;\n",
+     "return answer.writes;\n    case SECOND_TOTAL_WRITES: return answer.reads;\n"),
+    ("two memory writes count as one",
+     WRITES, WRITES.replace("load64(answer + 32)", "load64(answer + 32) != 0"),
+     "return answer.writes;\n", "return answer.writes != 0;\n"),
+    ("a device write's memory write is not counted",
+     WRITES, "    if ((word & 7) != DEVICE_WRITE)\n    " + WRITES,
+     "return answer.writes;\n",
+     "return second_take_apart(word, 0).kind == SECOND_DEVICE_WRITE ? 0 : answer.writes;\n"),
+    ("device writes are counted as writes",
+     ACCEPTED, "    add_to(record, (word & 7) == DEVICE_WRITE ? WRITE : word & 7, 1);\n",
+     SECOND_ACCEPTED, SECOND_ACCEPTED.replace("(word, 0).kind", "((word & 7) == 5 ? 1 : word, 0).kind")),
+    ("all totals are added twice",
+     SUM, SUM.replace("+ more", "+ 2 * more"),
+     SECOND_COUNT, SECOND_COUNT.replace("+ second_adds", "+ 2 * second_adds")),
+    ("totals stop at 2^64 - 3",
+     SUM, "    if (load64(record + 8 * place) < UINT64_MAX - 2)\n    " + SUM,
+     SECOND_COUNT, "if (decode_word(record + 8 * place) < UINT64_MAX - 2)\n            " + SECOND_COUNT),
+    ("totals are kept big-endian",
+     SUM,
+     "    store64(record + 8 * place, __builtin_bswap64(__builtin_bswap64(load64(record + 8 * place)) + more));",
+     SECOND_COUNT,
+     SECOND_COUNT.replace("decode_word(record + 8 * place) + second_adds(place, word, answer)",
+                          "__builtin_bswap64(__builtin_bswap64(decode_word(record + 8 * place)) +\n"
+                          "                                      second_adds(place, word, answer))")),
+]
+
 TRACE = [
     ("a longer input is cut off",
      "static uint8_t trace[MOST_BYTES + 1];",
@@ -714,6 +935,92 @@ TRACE = [
     ("no end on an empty input",
      "    while (fread(rest, 1, sizeof rest, stdin) > 0)",
      "    while (length == 0 || fread(rest, 1, sizeof rest, stdin) > 0)"),
+]
+
+# Of the second implementation of the program totals.
+READ_TRACE_END = "    if (came == 0)\n        return NO_MORE;\n"
+RUN_START = "    model = zeros;\n    model.shape = said_shape();\n    second_fresh(&model);\n"
+REFUSED_LINE = "    if (refusal == 1 || refusal == 2)\n        printf(\"refused %\" PRIu64 \"\\n\", refusal);\n"
+ROWS = [
+    ("an empty input is refused 1", READ_TRACE_END, ""),
+    ("a trace cut in its sizes is the end of input", "    if (came == 0)\n", "    if (came < HEAD_BYTES)\n"),
+    ("a trace cut behind its sizes is the end of input",
+     "    if (take(body, 16 * (size_t)orders) < 16 * (size_t)orders)\n        return 1;\n",
+     "    if (take(body, 16 * (size_t)orders) < 16 * (size_t)orders)\n        return NO_MORE;\n"),
+    ("a trace cut short is run",
+     "    if (take(body, 16 * (size_t)orders) < 16 * (size_t)orders)\n        return 1;\n",
+     "    take(body, 16 * (size_t)orders);\n"),
+    ("a trace that lacks its last byte is run",
+     "orders) < 16 * (size_t)orders)\n        return 1;", "orders) + 1 < 16 * (size_t)orders)\n        return 1;"),
+    ("2,049 orders", "MOST_ORDERS = 2048,", "MOST_ORDERS = 2049,"),
+    ("2,047 orders", "MOST_ORDERS = 2048,", "MOST_ORDERS = 2047,"),
+    ("the number of orders is read from two bytes",
+     "    uint64_t orders = number_at(head + 12, 4);\n\n    if (came",
+     "    uint64_t orders = number_at(head + 12, 2);\n\n    if (came"),
+    ("what is behind too many orders is read on",
+     "        if (refusal != ACCEPTED)\n            break;\n",
+     "        if (refusal == 1 && !feof(stdin)) {\n            printf(\"refused 1\\n\");\n"
+     "            continue;\n        }\n"
+     "        if (refusal != ACCEPTED)\n            break;\n"),
+    ("a refused shape does not end the reading",
+     "        if (refusal != ACCEPTED)\n            break;\n",
+     "        if (refusal == 2) {\n            printf(\"refused 2\\n\");\n            continue;\n        }\n"
+     "        if (refusal != ACCEPTED)\n            break;\n"),
+    ("the shape is refused before the length",
+     "    if (take(body,",
+     "    if (second_call_refusal(said_shape(), second_lengths_of(said_shape(), 0), 0))\n        return 2;\n"
+     "    if (take(body,"),
+    ("the shape is refused before the number of orders",
+     "    if (came < HEAD_BYTES || orders > MOST_ORDERS)\n",
+     "    if (came == HEAD_BYTES && orders > MOST_ORDERS && number_at(head, 4) > 8)\n        return 2;\n"
+     "    if (came < HEAD_BYTES || orders > MOST_ORDERS)\n"),
+    ("a refused trace has a row", "        if (refusal != ACCEPTED)\n            break;\n",
+     "        if (refusal == 1 || refusal == 2)\n            print_row(trace, totals);\n"
+     "        if (refusal != ACCEPTED)\n            break;\n"),
+    ("a refusal is not printed", REFUSED_LINE, ""),
+    ("a refusal is printed behind the sum row",
+     REFUSED_LINE + "    print_row(0, sums);\n", "    print_row(0, sums);\n" + REFUSED_LINE),
+    ("no sum row after a refusal", "    print_row(0, sums);\n",
+     "    if (refusal == ACCEPTED || refusal == NO_MORE)\n        print_row(0, sums);\n"),
+    ("no sum row without traces",
+     "    print_row(0, sums);\n", "    if (sums[0] + sums[1] + sums[2] + sums[6] > 0)\n        print_row(0, sums);\n"),
+    ("no sum row after the last trace",
+     "    print_row(0, sums);\n", "    if (refusal != ACCEPTED)\n        print_row(0, sums);\n"),
+    ("10,000 traces", "MOST_TRACES = 9999 ", "MOST_TRACES = 10000 "),
+    ("9,998 traces", "MOST_TRACES = 9999 ", "MOST_TRACES = 9998 "),
+    ("what is behind the last trace is refused",
+     REFUSED_LINE, "    if (refusal == ACCEPTED)\n        refusal = read_trace();\n" + REFUSED_LINE),
+    ("traces are counted from 0", "        print_row(trace, totals);\n", "        print_row(trace - 1, totals);\n"),
+    ("the sum row has a number", "    print_row(0, sums);\n", "    print_row(MOST_TRACES + 1, sums);\n"),
+    ("memory stays from trace to trace", RUN_START, RUN_START.replace("    model = zeros;\n", "")),
+    ("tables stay from trace to trace",
+     RUN_START,
+     "    model.shape = said_shape();\n    for (size_t line = 0; line < SECOND_MAX_LINES; line++)\n"
+     "        model.memory[line] = zeros.memory[line];\n"),
+    ("totals stay from trace to trace",
+     "        uint64_t totals[SECOND_TOTALS] = {0};\n", "        static uint64_t totals[SECOND_TOTALS];\n"),
+    ("the sum row is the last trace's",
+     "            sums[place] += totals[place];\n", "            sums[place] = totals[place];\n"),
+    ("the sum row is cut at 8,192", "            sums[place] += totals[place];\n",
+     "            sums[place] = (sums[place] + totals[place]) % 8192;\n"),
+    ("memory reads and writes change places",
+     "        printf(\" %\" PRIu64, totals[place]);\n",
+     "        printf(\" %\" PRIu64, totals[place == 7 ? 8 : place == 8 ? 7 : place]);\n"),
+    ("the refused come before the kinds",
+     "        printf(\" %\" PRIu64, totals[place]);\n",
+     "        printf(\" %\" PRIu64, totals[place == 0 ? 6 : place < 7 ? place - 1 : place]);\n"),
+    ("a total is left out", "    for (unsigned place = 0; place < SECOND_TOTALS; place++)\n        printf",
+     "    for (unsigned place = 0; place < SECOND_TOTALS - 1; place++)\n        printf"),
+    ("a blank at the end of a row", "    printf(\"\\n\");\n", "    printf(\" \\n\");\n"),
+    ("no line feed at the end", "    printf(\"\\n\");\n", "    if (trace > 0)\n        printf(\"\\n\");\n"),
+    ("refused orders are not counted",
+     "            totals[place] += second_adds(place, word, answer);\n",
+     "            totals[place] += answer.refusal ? 0 : second_adds(place, word, answer);\n"),
+    ("words and operands take turns",
+     "number_at(body + 8 * (orders + k), 8);", "number_at(body + 8 * (k + 1), 8);"),
+    ("one read of each part",
+     "    while (taken < length && (got = fread(bytes + taken, 1, length - taken, stdin)) > 0)",
+     "    extern long read(int, void *, size_t);\n\n    if (length > 0 && (got = (size_t)read(0, bytes, length)) > 0)"),
 ]
 
 # What the header has beside the declarations, which is C and not proved: model_test.c is compiled with each of these.
@@ -787,8 +1094,8 @@ HEADER = [
      "    if (refusal != MOESI_ACCEPTED)\n        return refusal;\n    memory[0] = 0;\n    return moesi_fresh"),
     # Step and audit.
     ("a step drops the operand",
-     "m->lines, word, operand, m->memory",
-     "m->lines, word, 0, m->memory"),
+     "    moesi_step(m->ports, m->sets, m->lines, word, operand, m->memory",
+     "    moesi_step(m->ports, m->sets, m->lines, word, 0, m->memory"),
     ("a step tries the order twice",
      "    uint8_t bytes[MOESI_ANSWER_BYTES];\n\n    moesi_step(",
      "    uint8_t bytes[MOESI_ANSWER_BYTES];\n\n"
@@ -871,6 +1178,71 @@ HEADER = [
     ("a device write's line is cut to its field",
      "    return moesi_order_word(MOESI_DEVICE_WRITE, 0, 0, line, mask, 0);",
      "    return moesi_order_word(MOESI_DEVICE_WRITE, 0, 0, line & 65535, mask, 0);"),
+    # Totals.
+    ("a kind less", "#define MOESI_KINDS 6u", "#define MOESI_KINDS 5u"),
+    ("the accepted are counted from 1",
+     "#define MOESI_TOTAL_ACCEPTED(kind) (kind)",
+     "#define MOESI_TOTAL_ACCEPTED(kind) ((kind) + 1u)"),
+    ("the refused stand where the swaps do",
+     "#define MOESI_TOTAL_REFUSED MOESI_KINDS",
+     "#define MOESI_TOTAL_REFUSED (MOESI_KINDS + 3u)"),
+    ("the refused stand one place early",
+     "#define MOESI_TOTAL_REFUSED MOESI_KINDS",
+     "#define MOESI_TOTAL_REFUSED (MOESI_KINDS - 1u)"),
+    ("the reads stand where the writes do",
+     "#define MOESI_TOTAL_READS (MOESI_KINDS + 1u)",
+     "#define MOESI_TOTAL_READS (MOESI_KINDS + 2u)"),
+    ("the writes stand where the reads do",
+     "#define MOESI_TOTAL_WRITES (MOESI_KINDS + 2u)",
+     "#define MOESI_TOTAL_WRITES (MOESI_KINDS + 1u)"),
+    ("the swaps stand where the refused do",
+     "#define MOESI_TOTAL_SWAPS (MOESI_KINDS + 3u)",
+     "#define MOESI_TOTAL_SWAPS MOESI_KINDS"),
+    ("a record has 72 bytes",
+     "#define MOESI_RECORD_BYTES (8u * (MOESI_KINDS + 4u))",
+     "#define MOESI_RECORD_BYTES (8u * (MOESI_KINDS + 3u))"),
+    ("a record has 88 bytes",
+     "#define MOESI_RECORD_BYTES (8u * (MOESI_KINDS + 4u))",
+     "#define MOESI_RECORD_BYTES (8u * (MOESI_KINDS + 5u))"),
+    ("the highest total is 2^64 - 2", "(UINT64_MAX - 2)", "(UINT64_MAX - 1)"),
+    ("the highest total is 2^64 - 4", "(UINT64_MAX - 2)", "(UINT64_MAX - 3)"),
+    ("the refusal of a full record has another number",
+     "#define MOESI_REFUSED_TOTALS 9u",
+     "#define MOESI_REFUSED_TOTALS 10u"),
+    ("reads and writes change places in the totals",
+     "    totals.memory_reads = moesi_get_word(record, MOESI_TOTAL_READS);\n"
+     "    totals.memory_writes = moesi_get_word(record, MOESI_TOTAL_WRITES);\n",
+     "    totals.memory_reads = moesi_get_word(record, MOESI_TOTAL_WRITES);\n"
+     "    totals.memory_writes = moesi_get_word(record, MOESI_TOTAL_READS);\n"),
+    ("the swaps are the accepted ones",
+     "    totals.swaps = moesi_get_word(record, MOESI_TOTAL_SWAPS);",
+     "    totals.swaps = moesi_get_word(record, MOESI_SWAP);"),
+    ("the refused are read from another place",
+     "    totals.refused = moesi_get_word(record, MOESI_TOTAL_REFUSED);",
+     "    totals.refused = moesi_get_word(record, MOESI_DEVICE_WRITE);"),
+    ("the last kind is not read",
+     "    for (size_t kind = 0; kind < MOESI_KINDS; kind++)",
+     "    totals.accepted[MOESI_KINDS - 1] = 0;\n    for (size_t kind = 0; kind < MOESI_KINDS - 1; kind++)"),
+    ("the kinds are read backwards",
+     "        totals.accepted[kind] = moesi_get_word(record, MOESI_TOTAL_ACCEPTED(kind));",
+     "        totals.accepted[MOESI_KINDS - 1 - kind] = moesi_get_word(record, MOESI_TOTAL_ACCEPTED(kind));"),
+    ("a step with a record of any length",
+     "bytes, sizeof bytes, record, record_len);",
+     "bytes, sizeof bytes, record, MOESI_RECORD_BYTES);"),
+    ("a step with a record says a byte less",
+     "bytes, sizeof bytes, record, record_len);",
+     "bytes, sizeof bytes, record, record_len - 1);"),
+    ("a step with a record lends none", "bytes, sizeof bytes, record, record_len);", "bytes, sizeof bytes, NULL, 0);"),
+    ("a step with a record drops the operand",
+     "    moesi_step_totals(m->ports, m->sets, m->lines, word, operand, m->memory,",
+     "    moesi_step_totals(m->ports, m->sets, m->lines, word, 0, m->memory,"),
+    ("a step with a record is made twice",
+     "    moesi_step_totals(m->ports,",
+     "    moesi_model_step(m, word, operand);\n    moesi_step_totals(m->ports,"),
+    ("a step with a record counts nothing",
+     "    moesi_step_totals(m->ports,",
+     "    if (record_len == MOESI_RECORD_BYTES)\n        return moesi_model_step(m, word, operand);\n"
+     "    moesi_step_totals(m->ports,"),
 ]
 
 
@@ -881,15 +1253,16 @@ def edit(name, source, old, new):
 
 
 def main():
-    """mutants.py walking|trace|header SOURCE FOLDER, or both|listed WALKING SECOND FOLDER; prints number and name of each.
+    """mutants.py walking|totals|trace|rows|header SOURCE FOLDER, or both|listed|counted WALKING SECOND FOLDER.
 
-    A header keeps its name, in a folder that has the number.
+    Prints number and name of each. A header keeps its name, in a folder that has the number.
     """
     which, *sources, folder = sys.argv[1:]
     texts = [pathlib.Path(source).read_text() for source in sources]
     folder = pathlib.Path(folder)
     folder.mkdir(parents=True, exist_ok=True)
-    lists = {"walking": WALKING, "trace": TRACE, "both": BOTH, "listed": LISTED, "header": HEADER}
+    lists = {"walking": WALKING, "totals": TOTALS, "trace": TRACE, "rows": ROWS, "both": BOTH, "listed": LISTED,
+             "counted": COUNTED, "header": HEADER}
     for number, (name, *edits) in enumerate(lists[which], 1):
         for place, text in enumerate(texts):
             old, new = edits[2 * place:2 * place + 2]

@@ -8,7 +8,7 @@
 #include <stdlib.h>
 #include <string.h>
 
-static const char *const slice_names[SLICES] = {"memory", "tags", "states", "data", "result"};
+static const char *const slice_names[SLICES] = {"memory", "tags", "states", "data", "result", "record"};
 
 /* What fills a result before a call, so that bytes left over from the call before can't pass for an answer. */
 enum { STALE = 0xEE };
@@ -80,7 +80,7 @@ void pair_place(struct pair *pair, enum slice slice, size_t length, unsigned ske
     lent->length = length;
     memset(lent->bytes, STALE, length);
     memset(lent->expected, STALE, length);
-    if (slice != RESULT)
+    if (slice <= DATA)
         pair->stale = 1;
 }
 
@@ -88,6 +88,17 @@ void pair_place_null(struct pair *pair, enum slice slice)
 {
     pair->slices[slice].bytes = NULL;
     pair->slices[slice].length = 0;
+}
+
+void pair_place_record(struct pair *pair, const uint8_t *bytes, size_t length, unsigned skew)
+{
+    struct lent *record = &pair->slices[RECORD];
+
+    pair_place(pair, RECORD, length, skew % (LENT_MAX_SKEW + 1));
+    if (length > 0) {
+        memcpy(record->bytes, bytes, length);
+        memcpy(record->expected, bytes, length);
+    }
 }
 
 static void encode_expected(struct pair *pair)
@@ -99,12 +110,12 @@ static void encode_expected(struct pair *pair)
 void pair_lend(struct pair *pair, unsigned skew)
 {
     struct second_lengths lengths = second_lengths_of(pair->second.shape, SECOND_ANSWER_BYTES);
-    size_t due[SLICES] = {lengths.memory, lengths.tags, lengths.states, lengths.data, lengths.result};
+    size_t due[RESULT + 1] = {lengths.memory, lengths.tags, lengths.states, lengths.data, lengths.result};
 
-    for (int s = 0; s < SLICES; s++)
+    for (int s = 0; s <= RESULT; s++)
         pair_place(pair, (enum slice)s, due[s], skew % (LENT_MAX_SKEW + 1));
     encode_expected(pair);
-    for (int s = 0; s < SLICES; s++)
+    for (int s = 0; s <= RESULT; s++)
         memcpy(pair->slices[s].bytes, pair->slices[s].expected, pair->slices[s].length);
     pair->stale = 0;
 }
@@ -120,9 +131,14 @@ static void take_over(struct pair *pair, struct second_shape shape)
 
 /* What is expected of a call. */
 
+static int is_step(enum call call)
+{
+    return call == STEP || call == STEP_TOTALS;
+}
+
 static size_t result_bytes(enum call call)
 {
-    return call == STEP ? SECOND_ANSWER_BYTES : SECOND_VERDICT_BYTES;
+    return is_step(call) ? SECOND_ANSWER_BYTES : SECOND_VERDICT_BYTES;
 }
 
 static struct second_lengths lent_lengths(const struct pair *pair)
@@ -140,6 +156,22 @@ static void spoil_result(struct lent *result)
         memset(result->bytes, STALE, result->length);
         memset(result->expected, STALE, result->length);
     }
+}
+
+/* The refusal before the order is looked at. The totals are noted as they are before the call. */
+static uint64_t early_refusal(struct pair *pair, enum call call, struct second_shape shape)
+{
+    const struct lent *record = &pair->slices[RECORD];
+    struct second_lengths lengths = lent_lengths(pair);
+
+    /* Fresh has no result. */
+    if (call == FRESH)
+        lengths.result = result_bytes(call);
+    if (call != STEP_TOTALS)
+        return second_call_refusal(shape, lengths, result_bytes(call));
+    if (record->length == SECOND_RECORD_BYTES)
+        second_decode_totals(pair->before, record->expected);
+    return second_totals_refusal(shape, lengths, record->expected, record->length);
 }
 
 /* Has the second model carry out an accepted call; gives the verdict of an audit. */
@@ -163,20 +195,18 @@ static int carry_out(struct pair *pair, enum call call, struct second_shape shap
 static uint64_t expect(struct pair *pair, enum call call, struct second_shape shape, uint64_t word, uint64_t operand)
 {
     static const struct second_answer nothing = {0, 0, 0, 0, 0};
-    struct lent *result = &pair->slices[RESULT];
-    struct second_lengths lengths = lent_lengths(pair);
+    struct lent *result = &pair->slices[RESULT], *record = &pair->slices[RECORD];
     int verdict = 0;
 
-    /* Fresh has no result. */
-    if (call == FRESH)
-        lengths.result = result_bytes(call);
     spoil_result(result);
     pair->expected = nothing;
-    pair->expected.refusal = second_call_refusal(shape, lengths, result_bytes(call));
+    pair->expected.refusal = early_refusal(pair, call, shape);
     if (pair->expected.refusal == 0)
         verdict = carry_out(pair, call, shape, word, operand);
-    if (call == STEP && result->length == SECOND_ANSWER_BYTES)
+    if (is_step(call) && result->length == SECOND_ANSWER_BYTES)
         second_encode_answer(pair->expected, result->expected);
+    if (call == STEP_TOTALS && record->length == SECOND_RECORD_BYTES)
+        second_count(record->expected, word, pair->expected);
     if (call == AUDIT && result->length == SECOND_VERDICT_BYTES)
         result->expected[0] = (uint8_t)verdict;
     return pair->expected.refusal;
@@ -188,7 +218,7 @@ static uint64_t call_library(struct pair *pair, enum call call, struct second_sh
                              uint64_t operand)
 {
     struct lent *memory = &pair->slices[MEMORY], *tags = &pair->slices[TAGS], *states = &pair->slices[STATES],
-                *data = &pair->slices[DATA], *result = &pair->slices[RESULT];
+                *data = &pair->slices[DATA], *result = &pair->slices[RESULT], *record = &pair->slices[RECORD];
 
     if (call == FRESH)
         return moesi_fresh(shape.ports, shape.sets, shape.lines, memory->bytes, memory->length, tags->bytes,
@@ -197,6 +227,10 @@ static uint64_t call_library(struct pair *pair, enum call call, struct second_sh
         return moesi_step(shape.ports, shape.sets, shape.lines, word, operand, memory->bytes, memory->length,
                           tags->bytes, tags->length, states->bytes, states->length, data->bytes, data->length,
                           result->bytes, result->length);
+    if (call == STEP_TOTALS)
+        return moesi_step_totals(shape.ports, shape.sets, shape.lines, word, operand, memory->bytes, memory->length,
+                                 tags->bytes, tags->length, states->bytes, states->length, data->bytes, data->length,
+                                 result->bytes, result->length, record->bytes, record->length);
     return moesi_audit(shape.ports, shape.sets, shape.lines, memory->bytes, memory->length, tags->bytes, tags->length,
                        states->bytes, states->length, data->bytes, data->length, result->bytes, result->length);
 }
@@ -279,6 +313,49 @@ static void count_step(struct tally *tally, uint64_t word, struct second_answer 
     tally->writes[answer.writes]++;
 }
 
+/* Counts what the totals of a record of its length were before a call and are after it. */
+static void count_limits(const struct pair *pair, struct tally *tally)
+{
+    uint64_t after[SECOND_TOTALS];
+    unsigned above = 0, place = 0;
+
+    second_decode_totals(after, pair->slices[RECORD].expected);
+    for (unsigned k = 0; k < SECOND_TOTALS; k++) {
+        if (pair->before[k] >= UINT64_MAX - 1) {
+            above++;
+            place = k;
+        } else {
+            tally->brims[k] += pair->expected.refusal != 9 && pair->before[k] == UINT64_MAX - 2;
+            tally->last[k] += after[k] >= UINT64_MAX - 1;
+        }
+    }
+    if (above == 1)
+        tally->full[pair->before[place] == UINT64_MAX][place]++;
+}
+
+static void count_totals(const struct pair *pair, struct tally *tally, uint64_t word)
+{
+    struct second_answer answer = pair->expected;
+    int answered = pair->slices[RESULT].length == SECOND_ANSWER_BYTES;
+
+    tally->totals_refusals[answer.refusal]++;
+    if (pair->slices[RECORD].length != SECOND_RECORD_BYTES) {
+        tally->records_of_other_length++;
+        return;
+    }
+    count_limits(pair, tally);
+    if (answer.refusal == 9)
+        tally->nines_unanswered += !answered;
+    else
+        tally->answers_of_other_length += !answered;
+    if (answer.refusal != 0)
+        return;
+    tally->totals_kinds[word & 7]++;
+    tally->totals_writes[answer.writes]++;
+    if ((word & 7) == SECOND_SWAP)
+        tally->totals_swaps[answer.swapped]++;
+}
+
 static void count(struct pair *pair, enum call call, uint64_t word)
 {
     uint64_t refusal = pair->expected.refusal;
@@ -288,6 +365,8 @@ static void count(struct pair *pair, enum call call, uint64_t word)
         pair->tally.fresh_refusals[refusal]++;
     if (call == STEP)
         count_step(&pair->tally, word, pair->expected);
+    if (call == STEP_TOTALS)
+        count_totals(pair, &pair->tally, word);
     if (call == AUDIT)
         pair->tally.audit_refusals[refusal]++;
     if (call == AUDIT && refusal == 0)
@@ -299,6 +378,7 @@ int pair_call(struct pair *pair, enum call call, struct second_shape shape, uint
     uint64_t expected = expect(pair, call, shape, word, operand);
     uint64_t got = call_library(pair, call, shape, word, operand);
 
+    pair->returned = got;
     pair->difference[0] = '\0';
     count(pair, call, word);
     if (expected == got && slices_equal(pair))
@@ -319,6 +399,12 @@ int pair_step(struct pair *pair, uint64_t word, uint64_t operand)
 {
     pair_place(pair, RESULT, SECOND_ANSWER_BYTES, (unsigned)(pair->tally.calls & LENT_MAX_SKEW));
     return pair_call(pair, STEP, pair->second.shape, word, operand);
+}
+
+int pair_step_totals(struct pair *pair, uint64_t word, uint64_t operand)
+{
+    pair_place(pair, RESULT, SECOND_ANSWER_BYTES, (unsigned)(pair->tally.calls & LENT_MAX_SKEW));
+    return pair_call(pair, STEP_TOTALS, pair->second.shape, word, operand);
 }
 
 int pair_audit(struct pair *pair)

@@ -19,9 +19,10 @@ struct lent {
     uint8_t *expected;
 };
 
-enum slice { MEMORY, TAGS, STATES, DATA, RESULT, SLICES };
+/* The record is lent to STEP_TOTALS alone. */
+enum slice { MEMORY, TAGS, STATES, DATA, RESULT, RECORD, SLICES };
 
-enum call { FRESH, STEP, AUDIT };
+enum call { FRESH, STEP, AUDIT, STEP_TOTALS };
 
 /* What the calls have met, so that a run can show that it met everything. */
 struct tally {
@@ -40,6 +41,17 @@ struct tally {
     uint64_t device_writes[3];    /* merged from an owner's word, from memory's with holders, and without */
     uint64_t device_masks[3];     /* 0x00, 0xFF, any other */
     uint64_t device_ports_beyond; /* device writes with a port field that no port has */
+    /* In steps with a record. */
+    uint64_t totals_refusals[10];
+    uint64_t totals_kinds[SECOND_KINDS];
+    uint64_t totals_swaps[2];  /* swaps that failed and that succeeded */
+    uint64_t totals_writes[3]; /* accepted orders by their memory writes */
+    uint64_t records_of_other_length;
+    uint64_t answers_of_other_length;   /* with a record that is not full */
+    uint64_t nines_unanswered;          /* refusal 9 with an answer of another length */
+    uint64_t brims[SECOND_TOTALS];      /* calls not refused 9 with the total there at 2^64 - 3 */
+    uint64_t full[2][SECOND_TOTALS];    /* calls refused 9 for the total there alone, at 2^64 - 2 and at 2^64 - 1 */
+    uint64_t last[SECOND_TOTALS];       /* totals that a call brought above 2^64 - 3 */
 };
 
 struct pair {
@@ -48,6 +60,8 @@ struct pair {
     struct second_model second;
     int stale;                     /* slices were placed whose bytes the second model has not taken over */
     struct second_answer expected; /* of the last call */
+    uint64_t returned;             /* by the library, from the last call */
+    uint64_t before[SECOND_TOTALS]; /* the totals before the last call, if its record has the length of one */
     struct tally tally;
     char difference[600]; /* what differed after the last call; empty if nothing did */
 };
@@ -62,15 +76,19 @@ void pair_place(struct pair *pair, enum slice slice, size_t length, unsigned ske
 /* An empty slice with the pointer NULL. */
 void pair_place_null(struct pair *pair, enum slice slice);
 
-/* Places the slices that the second model's shape gives, and lends what the second model holds. */
+/* Places a record of a length at an alignment, with these bytes. */
+void pair_place_record(struct pair *pair, const uint8_t *bytes, size_t length, unsigned skew);
+
+/* Places the slices that the second model's shape gives, and lends what the second model holds. The record stays. */
 void pair_lend(struct pair *pair, unsigned skew);
 
 /* Makes a call to the library and to the second model; 1 if all is as expected. */
 int pair_call(struct pair *pair, enum call call, struct second_shape shape, uint64_t word, uint64_t operand);
 
-/* The three calls with the second model's shape and a result slice of the right length; 1 if all is as expected. */
+/* The calls with the second model's shape and a result slice of the right length; 1 if all is as expected. */
 int pair_fresh(struct pair *pair);
 int pair_step(struct pair *pair, uint64_t word, uint64_t operand);
+int pair_step_totals(struct pair *pair, uint64_t word, uint64_t operand);
 int pair_audit(struct pair *pair);
 
 /* The verdict of the last audit, as the library gave it. */

@@ -657,3 +657,55 @@ struct second_answer second_decode_answer(const uint8_t bytes[SECOND_ANSWER_BYTE
     answer.writes = decode_word(bytes + 32);
     return answer;
 }
+
+/* Document 02's order 2: a record of totals. */
+
+void second_encode_totals(const uint64_t totals[SECOND_TOTALS], uint8_t record[SECOND_RECORD_BYTES])
+{
+    for (unsigned place = 0; place < SECOND_TOTALS; place++)
+        encode_word(totals[place], record + 8 * place);
+}
+
+void second_decode_totals(uint64_t totals[SECOND_TOTALS], const uint8_t record[SECOND_RECORD_BYTES])
+{
+    for (unsigned place = 0; place < SECOND_TOTALS; place++)
+        totals[place] = decode_word(record + 8 * place);
+}
+
+uint64_t second_totals_refusal(struct second_shape shape, struct second_lengths lengths, const uint8_t *record,
+                               size_t record_len)
+{
+    uint64_t refusal;
+
+    /* "9, checked before every other, where the record has its length and any total is above 2^64 - 3" */
+    for (unsigned place = 0; place < SECOND_TOTALS && record_len == SECOND_RECORD_BYTES; place++) {
+        if (decode_word(record + 8 * place) > UINT64_C(18446744073709551613))
+            return 9;
+    }
+    refusal = second_call_refusal(shape, lengths, SECOND_ANSWER_BYTES);
+    if (refusal != 0)
+        return refusal;
+    /* "A record of another length is refusal 3". */
+    return record_len == SECOND_RECORD_BYTES ? 0 : 3;
+}
+
+uint64_t second_adds(unsigned place, uint64_t word, struct second_answer answer)
+{
+    /* "each total equals the sum over the answers in the list other than 9" */
+    if (answer.refusal == 9)
+        return 0;
+    switch (place) {
+    case SECOND_TOTAL_REFUSED: return answer.refusal != 0;
+    case SECOND_TOTAL_READS: return answer.reads;
+    case SECOND_TOTAL_WRITES: return answer.writes;
+    case SECOND_TOTAL_SWAPS: return answer.swapped;
+    default: /* "accepted orders per kind from kind 0 up" */
+        return answer.refusal == 0 && second_take_apart(word, 0).kind == place;
+    }
+}
+
+void second_count(uint8_t record[SECOND_RECORD_BYTES], uint64_t word, struct second_answer answer)
+{
+    for (unsigned place = 0; place < SECOND_TOTALS; place++)
+        encode_word(decode_word(record + 8 * place) + second_adds(place, word, answer), record + 8 * place);
+}

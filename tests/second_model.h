@@ -1,4 +1,4 @@
-/* The second model: documents 01 and 02 (order 1) in plain C, a line and its holders at a time, on arrays of its own. */
+/* The second model: documents 01 and 02 (orders 1, 2) in plain C: a line and its holders at a time, on own arrays. */
 
 #ifndef SECOND_MODEL_H
 #define SECOND_MODEL_H
@@ -49,6 +49,17 @@ enum second_kind {
     SECOND_KINDS
 };
 
+/* Places of the totals in a record; the accepted orders of a kind are at the kind's number. */
+enum second_total {
+    SECOND_TOTAL_REFUSED = SECOND_KINDS,
+    SECOND_TOTAL_READS,
+    SECOND_TOTAL_WRITES,
+    SECOND_TOTAL_SWAPS,
+    SECOND_TOTALS
+};
+
+enum { SECOND_RECORD_BYTES = 8 * SECOND_TOTALS };
+
 enum second_mode { SECOND_THROUGH, SECOND_BACK };
 
 /* The fields of an order word, with its operand. */
@@ -93,6 +104,16 @@ void second_fresh(struct second_model *model);
 struct second_answer second_step(struct second_model *model, uint64_t word, uint64_t operand);
 int second_audit(const struct second_model *model);
 
+/* The first of refusals 9, 2 and 3 of a step with a record, from the slices' lengths and the totals; 0 if none. */
+uint64_t second_totals_refusal(struct second_shape shape, struct second_lengths lengths, const uint8_t *record,
+                               size_t record_len);
+
+/* What the answer to an order adds to the total at a place. */
+uint64_t second_adds(unsigned place, uint64_t word, struct second_answer answer);
+
+/* Adds the answer to an order to every total of a record. */
+void second_count(uint8_t record[SECOND_RECORD_BYTES], uint64_t word, struct second_answer answer);
+
 /* How many ports hold the line. */
 unsigned second_holders(const struct second_model *model, unsigned line);
 
@@ -102,5 +123,7 @@ void second_decode(struct second_model *model, const uint8_t *memory, const uint
 void second_encode(const struct second_model *model, uint8_t *memory, uint8_t *tags, uint8_t *states, uint8_t *data);
 void second_encode_answer(struct second_answer answer, uint8_t bytes[SECOND_ANSWER_BYTES]);
 struct second_answer second_decode_answer(const uint8_t bytes[SECOND_ANSWER_BYTES]);
+void second_encode_totals(const uint64_t totals[SECOND_TOTALS], uint8_t record[SECOND_RECORD_BYTES]);
+void second_decode_totals(uint64_t totals[SECOND_TOTALS], const uint8_t record[SECOND_RECORD_BYTES]);
 
 #endif

@@ -245,3 +245,28 @@ void traffic_noise(const struct traffic *traffic, struct generator *generator, s
             model->states[entry] = no_state(generator);
     }
 }
+
+/* Totals. */
+
+static uint64_t some_total(struct generator *generator)
+{
+    static const uint64_t limits[6] = {UINT64_MAX - 2, UINT64_MAX - 2, UINT64_MAX - 3, UINT64_MAX - 4,
+                                       UINT64_C(1) << 63, UINT64_MAX >> 1};
+
+    switch (generator_below(generator, 4)) {
+    case 0: return generator_below(generator, 1000);
+    case 1: return UINT64_MAX - 3 - generator_below(generator, 20);
+    case 2: return limits[generator_below(generator, 6)];
+    default: return generator_word(generator) >> 1;
+    }
+}
+
+void traffic_totals(struct generator *generator, uint64_t totals[SECOND_TOTALS])
+{
+    unsigned habit = generator_below(generator, 10);
+
+    for (unsigned place = 0; place < SECOND_TOTALS; place++)
+        totals[place] = habit == 0 ? 0 : habit == 1 ? UINT64_MAX - 2 : some_total(generator);
+    if (habit > 1 && generator_percent(generator, 60))
+        totals[generator_below(generator, SECOND_TOTALS)] = UINT64_MAX - generator_below(generator, 2);
+}

@@ -43,6 +43,9 @@ void traffic_fill_tables(struct generator *generator, struct second_model *model
 /* Spoils an entry or a word of memory, mostly where the orders go. */
 void traffic_damage(const struct traffic *traffic, struct generator *generator, struct second_model *model);
 
+/* Totals for a record: zeros, few, or close to 2^64 - 3; in half of them just one is above it. */
+void traffic_totals(struct generator *generator, uint64_t totals[SECOND_TOTALS]);
+
 /* Tables of random entries: mostly states, mostly tags of lines below lines. */
 void traffic_noise(const struct traffic *traffic, struct generator *generator, struct second_model *model);
 

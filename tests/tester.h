@@ -1,0 +1,48 @@
+/* What a run of the differential test works with, what its groups share, and the groups on totals. */
+
+#ifndef TESTER_H
+#define TESTER_H
+
+#include "history.h"
+#include "traffic.h"
+
+struct tester {
+    const char *name;
+    uint64_t seed;
+    uint64_t percent; /* of the usual number of calls */
+    uint64_t group;   /* the only group to run; GROUPS for all */
+    uint64_t from;    /* the first group to run, unless there is only one */
+    uint64_t run;     /* the only run of it; UINT64_MAX for all */
+    int first;        /* stop at the first group that fails */
+    int exact;        /* slices without guard bytes, for a memory checker */
+    struct generator generator;
+    struct pair pair;
+    struct history history;
+    struct traffic traffic;
+};
+
+/* Says what a call outside a history showed; gives 0. */
+int report_call(struct tester *tester, const char *what, struct second_shape shape, uint64_t word, uint64_t operand);
+
+/* Two ports, one set, two lines, memory 5 and 7: begins a history from fresh; 1 if all is as expected. */
+int begin_at_five_and_seven(struct tester *tester);
+
+/* Chooses a run's traffic on a shape, and fills main memory of history.start. */
+void begin_traffic(struct tester *tester, struct second_shape shape);
+
+/* Carries out random orders from history.start, fresh or not; 1 if all is as expected. */
+int run_history(struct tester *tester, int fresh, size_t orders);
+
+/* A failed history: cut down, then printed; gives 0. */
+int report_history(struct tester *tester);
+
+/* Places slices again, those whose bit is set in wrong (memory, tags, states, data), mostly with other lengths. */
+void misplace(struct tester *tester, unsigned wrong);
+
+/* The groups on totals: numbers worked out by hand (run 0 to 2), sums over histories, any records, other lengths. */
+int totals_numbers(struct tester *tester, uint64_t run);
+int totals_histories(struct tester *tester, uint64_t run);
+int totals_records(struct tester *tester, uint64_t run);
+int totals_lengths(struct tester *tester, uint64_t run);
+
+#endif
