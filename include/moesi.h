@@ -89,13 +89,13 @@
  * read) with no flush, unless the line was written in write back, by a write or
  * by a swap that succeeded, since its last write-through access by any port (a
  * read, a write or a swap, successful or not) or its last device write or,
- * without either, since the start. The rule looks at these orders alone: a flush does not count as a
- * write-through access. What it does is store the word if the port that flushes
- * owns the line (state O or M); so once every holder that owns the line has
- * flushed it, memory has the word, until the next write, or swap that succeeds,
- * in write back. A flush by a port that doesn't hold the line changes nothing: to
- * be sure, flush the line from every port, or read it once in write through from
- * any port.
+ * without either, since the start. The rule looks at these orders alone: a flush
+ * does not count as a write-through access. What it does is store the word if the
+ * port that flushes owns the line (state O or M); so once every holder that owns
+ * the line has flushed it, memory has the word, until the next write, or swap
+ * that succeeds, in write back. A flush by a port that doesn't hold the line
+ * changes nothing: to be sure, flush the line from every port, or read it once in
+ * write through from any port.
  *
  * What a device writes
  * --------------------

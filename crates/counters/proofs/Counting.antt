@@ -63,4 +63,5 @@ module _ (n : Totals) {kind : ℕ} {a : Answer} (few : Few kind a) where
   pub counted-is : {k : ℕ} → k ≡ orderPlace kind (a .refusal) → {c d : Counters} → c ≡ countersAt n k → d ≡ countersAfter c a → {m : Totals}
       → m ≡ countersPut n k d → m ≡ totalsAfter n kind a
   unfolding totalsAfter
-  counted-is {k} ek ec ed em = em ∙ rw (ed, ec) (put-back k (place-low few ek) ∙ ap (λ (j : ℕ). plus swapsPlace (a .swapped) (plus writesPlace (a .writes) (plus readsPlace (a .reads) (plus j 1 n)))) ek)
+  counted-is {k} ek ec ed em = em ∙ rw (ed, ec) (put-back k (place-low few ek) ∙ ap
+      (λ (j : ℕ). plus swapsPlace (a .swapped) (plus writesPlace (a .writes) (plus readsPlace (a .reads) (plus j 1 n)))) ek)

@@ -77,7 +77,8 @@ module _ {M : Type 1} (𝓤 : URA M) (H : Heap 𝓤) (A : Atoms 𝓤) (at-mem : 
   added-of : (h : Counters) (a : Answer) (r : Counters) → ent 𝓤 (ensured 𝓤 H A added.ended (added.clauses 𝓤 H A at-mem run) tt (h, (a, tt)) tt r) (fact 𝓤 (r ≡ countersAfter h a))
   added-of h a r = exE 𝓤 _ (λ ws. snd∗ 𝓤 (sem 𝓤 H A (lasts added.ended tt (h, (a, tt)) ws)) (fact 𝓤 (r ≡ countersAfter h a)))
 
-module _ {M : Type 1} (𝓤 : URA M) (H : Heap 𝓤) (A : Atoms 𝓤) (W : Given 𝓤 H A) (at-mem : Memory → SProp 𝓤) (run : Routine → Fun 𝓤) (κ : Lft) (q : Share) (b o : ℕ) (γ : GName) (h : Counters) (a : Answer)
+module _ {M : Type 1} (𝓤 : URA M) (H : Heap 𝓤) (A : Atoms 𝓤) (W : Given 𝓤 H A) (at-mem : Memory → SProp 𝓤) (run : Routine
+    → Fun 𝓤) (κ : Lft) (q : Share) (b o : ℕ) (γ : GName) (h : Counters) (a : Answer)
     (a-is : Is An.the-row a (answer-vals a)) where
   abbrev x : Arg
   x = (record { ptr = (b, o); name = γ; now = h }, (a, tt))
@@ -91,7 +92,8 @@ module _ {M : Type 1} (𝓤 : URA M) (H : Heap 𝓤) (A : Atoms 𝓤) (W : Given
   exits : (r : Counters) → r ≡ countersAfter h a → ent 𝓤 (sep 𝓤 (A .obs γ (T.the-row .coded .code r)) (sep 𝓤 (A .bor κ (Body (mem T.the-row) b o γ)) (A .lft κ q))) (Post vunit)
   exits r e =
       qed W (‵ (fobs γ (T.the-row .coded .code r)) ∷ ‵ (fbor κ (Body (mem T.the-row) b o γ)) ∷ ‵ (flft κ q) ∷ []) ∵
-      suffices ! _ (ends-at 𝓤 H A bring.ended stayed (bring.clauses 𝓤 H A at-mem run) W (((κ, tt), (q, tt), tt, x, at), tt) vunit tt (r, (tt, tt)) (tt, (tt, tt))) $ says ! e $ nothing ! $ move ! (3 ∷ 0 ∷ []) $ join ! $
+      suffices ! _ (ends-at 𝓤 H A bring.ended stayed (bring.clauses 𝓤 H A at-mem run) W (((κ, tt), (q, tt), tt, x, at), tt) vunit tt (r, (tt, tt)) (tt, (tt, tt))) $
+      says ! e $ nothing ! $ move ! (3 ∷ 0 ∷ []) $ join ! $
       frame ! $ feqI ! (List Val) (vptr b o ∷ []) (vptr b o ∷ []) refl $ fjoin3 ! $ nothing ! $
       owned ! An.the-row (Is An.the-row) (LL.makes An.the-type An′.the-plain 𝓤 H A) a _ a-is $ fjoin ! $ move ! (1 ∷ 0 ∷ []) $ fjoin ! $
       feqI ! (List Val) (vunit ∷ []) (vunit ∷ []) refl $ move ! (1 ∷ 0 ∷ []) $ done !
@@ -109,24 +111,30 @@ module _ {M : Type 1} (𝓤 : URA M) (H : Heap 𝓤) (A : Atoms 𝓤) (W : Given
   module _ (C : Calls 𝓤 H) (Λ : Loops 𝓤 H) (fm : FmC 𝓤 H (W .laws) C) (known : Triple 𝓤 (C #counters·added) (Added 𝓤 H A at-mem run)) where
     walk : Room h a → ent 𝓤 (onEntry 𝓤 H A bring.signature (κ, tt) (q, tt) x at) (WpFn 𝓤 H C Λ code.function (vptr b o ∷ answer-vals a) Post)
     walk few =
-        qed W ((‵ (flft κ q) ⊛ ‵ ftrue) ∷ ‵ (owns (MutRef (named 0) κ T.the-row ∷ An.the-row ∷ []) x at) ∷ []) ∵ split ! $ move ! (2 ∷ []) $ fsplit ! $ fsplit3 ! $ drop ! $ move ! (0 ∷ 1 ∷ 3 ∷ []) $
+        qed W ((‵ (flft κ q) ⊛ ‵ ftrue) ∷ ‵ (owns (MutRef (named 0) κ T.the-row ∷ An.the-row ∷ []) x at) ∷ []) ∵ split ! $ move ! (2 ∷ []) $ fsplit ! $ fsplit3 ! $
+        drop ! $ move ! (0 ∷ 1 ∷ 3 ∷ []) $
         -- [obs; the borrow; the token; what a owns; true]
         enter ! C Λ code.function (vptr b o ∷ answer-vals a) _ $
         alloc1 ! (λ l₀. alloc1 ! (λ l₁. alloc1 ! (λ l₂. alloc1 ! (λ l₃. alloc1 ! (λ l₄. alloc0 ! $ params1 ! $
         pass1 ! (init ! 6 refl (tt, tt)) $ pass1 ! (init ! 4 refl (LL.lawful An.the-type An′.the-laws 𝓤 H A W .typed a _ a-is .0)) $ pass0 ! $
         -- the borrow is opened
-        move ! (10 ∷ 11 ∷ 12 ∷ []) $ opens ! tt T.the-row {h = h} b o (λ vs. spelt ! T.the-row (Is T.the-row) (shows 𝓤 H A T.the-row) vals (LL.tells T.the-type T′.the-laws) fullShare h vs b o $
+        move ! (10 ∷ 11 ∷ 12 ∷ []) $
+        opens ! tt T.the-row {h = h} b o (λ vs. spelt ! T.the-row (Is T.the-row) (shows 𝓤 H A T.the-row) vals (LL.tells T.the-type T′.the-laws) fullShare h vs b o $
         move ! (1 ∷ []) $ peeks ! T.the-row (Is T.the-row) (shows 𝓤 H A T.the-row) h (vals h) (λ is. move ! (1 ∷ 0 ∷ []) $
         -- [the cell of the counters; what they own; the open borrow; obs; auth; room for _4; …; room for _3; …; _2; …; _1; …; room for _0; …]
-        assigns ! (of-opd ! (load ! (from ! (hop ! (look ! 11 refl) (stop !))) (look-raw ! 0 refl))) (from ! (stop !)) (init ! 5 refl (LL.lawful T.the-type T′.the-laws 𝓤 H A W .typed h _ is .0)) $
+        assigns ! (of-opd ! (load ! (from ! (hop ! (look ! 11 refl) (stop !))) (look-raw ! 0 refl))) (from ! (stop !))
+        (init ! 5 refl (LL.lawful T.the-type T′.the-laws 𝓤 H A W .typed h _ is .0)) $
         use0 W (raw (Added 𝓤 H A at-mem run .pre to-added)) (goes few is) $
-        calls-at ! fm (Added 𝓤 H A at-mem run) known to-added (and-then ! (load ! (from ! (stop !)) (look ! 6 refl)) (and-then ! (load ! (from ! (stop !)) (look ! 10 refl)) (no-more !))) (λ w.
-        use1 W (later (some (λ (r : Counters). (‵ ftrue ⊛ ‵ (T.the-row .own r (w ∷ []))) ⊛ raw (ensured 𝓤 H A added.ended (added.clauses 𝓤 H A at-mem run) tt (h, (a, tt)) tt r)))) (id⊢ 𝓤 _) $ await ! tt $ pick ! (λ r.
+        calls-at ! fm (Added 𝓤 H A at-mem run) known to-added (and-then ! (load ! (from ! (stop !)) (look ! 6 refl))
+        (and-then ! (load ! (from ! (stop !)) (look ! 10 refl)) (no-more !))) (λ w.
+        use1 W (later (some (λ (r : Counters). (‵ ftrue ⊛ ‵ (T.the-row .own r (w ∷ []))) ⊛ raw
+        (ensured 𝓤 H A added.ended (added.clauses 𝓤 H A at-mem run) tt (h, (a, tt)) tt r)))) (id⊢ 𝓤 _) $ await ! tt $ pick ! (λ r.
         split ! $ move ! (1 ∷ []) $ use1 W (raw (fact 𝓤 (r ≡ countersAfter h a))) (added-of 𝓤 H A at-mem run h a r) $ heard ! (r ≡ countersAfter h a) (λ e. split ! $ drop ! $
         peeks ! T.the-row (Is T.the-row) (shows 𝓤 H A T.the-row) r (w ∷ []) (λ r-is.
         -- [what the new counters own; the cell; what the old ones own; the open borrow; obs; auth; _4; …; room for _3; …; _2; …; _1; …; room for _0; …]
         land ! (from ! (stop !)) (init ! 8 refl (LL.lawful T.the-type T′.the-laws 𝓤 H A W .typed r _ r-is .0)) $
-        assigns ! (of-opd ! (load ! (from ! (stop !)) (look ! 8 refl))) (from ! (hop ! (look ! 12 refl) (stop !))) (store-raw ! 1 refl (LL.lawful T.the-type T′.the-laws 𝓤 H A W .typed r _ r-is .0)) $
+        assigns ! (of-opd ! (load ! (from ! (stop !)) (look ! 8 refl))) (from ! (hop ! (look ! 12 refl) (stop !)))
+        (store-raw ! 1 refl (LL.lawful T.the-type T′.the-laws 𝓤 H A W .typed r _ r-is .0)) $
         assigns ! (of-opd ! (unit-lit !)) (from ! (stop !)) (init ! 14 refl (tt, tt)) $
         -- the borrow is closed at the new counters
         move ! (2 ∷ []) $ drop ! $ move ! (1 ∷ 0 ∷ []) $ closes ! tt T.the-row r (w ∷ []) b o $
@@ -135,16 +143,20 @@ module _ {M : Type 1} (𝓤 : URA M) (H : Heap 𝓤) (A : Atoms 𝓤) (W : Given
         keep ! (0 ∷ 1 ∷ 2 ∷ []) $ by ! (exits r e))))))))))))
 
 module _ {M : Type 1} (𝓤 : URA M) (H : Heap 𝓤) (A : Atoms 𝓤) (W : Given 𝓤 H A) (at-mem : Memory → SProp 𝓤) (run : Routine → Fun 𝓤) where
-  bring-walks : (C : Calls 𝓤 H) (Λ : Loops 𝓤 H) → FmC 𝓤 H (W .laws) C → Triple 𝓤 (C #counters·added) (Added 𝓤 H A at-mem run) → Walks 𝓤 H A bring.ended stayed (WpFn 𝓤 H C Λ code.function) (bring.clauses 𝓤 H A at-mem run)
-  bring-walks C Λ fm known = walked 𝓤 H A bring.ended stayed (bring.clauses 𝓤 H A at-mem run) (WpFn 𝓤 H C Λ code.function) (λ κs. (ptr-vals, (answer-vals, tt))) (λ κs. (mut-tells (named 0) (κs .0) T.the-row, (LL.tells An.the-type An′.the-laws, tt)))
+  bring-walks : (C : Calls 𝓤 H) (Λ : Loops 𝓤 H) → FmC 𝓤 H (W .laws) C → Triple 𝓤 (C #counters·added) (Added 𝓤 H A at-mem run)
+      → Walks 𝓤 H A bring.ended stayed (WpFn 𝓤 H C Λ code.function) (bring.clauses 𝓤 H A at-mem run)
+  bring-walks C Λ fm known = walked 𝓤 H A bring.ended stayed (bring.clauses 𝓤 H A at-mem run) (WpFn 𝓤 H C Λ code.function) (λ κs. (ptr-vals, (answer-vals, tt)))
+      (λ κs. (mut-tells (named 0) (κs .0) T.the-row, (LL.tells An.the-type An′.the-laws, tt)))
       (λ κs qs bounds y _ are. needs 𝓤 _ _ (walk 𝓤 H A W at-mem run (κs .0) (qs .0) (y .0 .ptr .0) (y .0 .ptr .1) (y .0 .name) (y .0 .now) (y .1 .0) (are .1 .0) C Λ fm known))
 
   goes-all : AllGo 𝓤 H A W 1 (bring.signature .params) (bring.ended .kept) stayed
   goes-all = (goes-ref 𝓤 H A W 1 0 tt (plain (λ _. T.the-row)), (goes-none 𝓤 H A W 1 (λ _. An.the-row) yes (λ κs x f. refl), tt))
 
-bring-meets : {M : Type 1} (𝓤 : URA M) (H : Heap 𝓤) (A : Atoms 𝓤) → Given 𝓤 H A → (at-mem : Memory → SProp 𝓤) (run : Routine → Fun 𝓤) (𝓣 : Tables 𝓤 H) → Triple 𝓤 (𝓣 .C #counters·added) (Added 𝓤 H A at-mem run)
+bring-meets : {M : Type 1} (𝓤 : URA M) (H : Heap 𝓤) (A : Atoms 𝓤) → Given 𝓤 H A → (at-mem : Memory → SProp 𝓤) (run : Routine → Fun 𝓤) (𝓣 : Tables 𝓤 H)
+    → Triple 𝓤 (𝓣 .C #counters·added) (Added 𝓤 H A at-mem run)
     → Meets 𝓤 H A bring.signature (WpFn 𝓤 H (𝓣 .C) (𝓣 .Λ) code.function) (bring.spec 𝓤 H A at-mem run)
-bring-meets 𝓤 H A W at-mem run 𝓣 known = walk-meets 𝓤 H A bring.ended stayed W (goes-all 𝓤 H A W at-mem run) (bring.clauses 𝓤 H A at-mem run) (WpFn 𝓤 H (𝓣 .C) (𝓣 .Λ) code.function) (WpFn-mono 𝓤 H (W .laws) 𝓣 code.function) (bring-walks 𝓤 H A W at-mem run (𝓣 .C) (𝓣 .Λ) (fmOf 𝓤 H (W .laws) 𝓣) known)
+bring-meets 𝓤 H A W at-mem run 𝓣 known = walk-meets 𝓤 H A bring.ended stayed W (goes-all 𝓤 H A W at-mem run) (bring.clauses 𝓤 H A at-mem run)
+    (WpFn 𝓤 H (𝓣 .C) (𝓣 .Λ) code.function) (WpFn-mono 𝓤 H (W .laws) 𝓣 code.function) (bring-walks 𝓤 H A W at-mem run (𝓣 .C) (𝓣 .Λ) (fmOf 𝓤 H (W .laws) 𝓣) known)
 
 pub bring-up-to-date-spec : {M : Type 1} → stated.statement M
 unfolding code.routine tablesOf

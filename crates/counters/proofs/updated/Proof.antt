@@ -79,7 +79,8 @@ Bring 𝓤 H A at-mem run = tripleOf 𝓤 H A bring.signature (bring.spec 𝓤 H
 module _ {M : Type 1} (𝓤 : URA M) (H : Heap 𝓤) (A : Atoms 𝓤) (W : Given 𝓤 H A) (h : Counters) (b o : ℕ) where
   lies : (vs : List Val) → ent 𝓤 (sep 𝓤 (sem 𝓤 H A (cellAt fullShare (T.the-row .mir) vs b o)) (sem 𝓤 H A (T.the-row .own h vs))) (sem 𝓤 H A (mem T.the-row .lies h b o))
   unfolding partOf
-  lies vs = qed W (‵ (cellAt fullShare (T.the-row .mir) vs b o) ∷ ‵ (T.the-row .own h vs) ∷ []) ∵ fjoin ! $ fpack ! (List Val) (λ us. fsep (cellAt fullShare (T.the-row .mir) us b o) (T.the-row .own h us)) vs $ done !
+  lies vs = qed W (‵ (cellAt fullShare (T.the-row .mir) vs b o) ∷ ‵ (T.the-row .own h vs) ∷ []) ∵ fjoin ! $
+      fpack ! (List Val) (λ us. fsep (cellAt fullShare (T.the-row .mir) us b o) (T.the-row .own h us)) vs $ done !
 
   abbrev Cell : List Val → SProp 𝓤
   Cell vs = sep 𝓤 (sem 𝓤 H A (cellAt fullShare (T.the-row .mir) vs b o)) (sem 𝓤 H A (T.the-row .own h vs))
@@ -113,7 +114,9 @@ module _ {M : Type 1} (𝓤 : URA M) (H : Heap 𝓤) (A : Atoms 𝓤) (W : Given
   abbrev to-bring : ℕ → GName → ℕ → Bring 𝓤 H A at-mem run .Ghost
   to-bring l δ ν = (((ν ∷ [], tt), (fullShare, tt), tt, (lent l δ, (a, tt)), (vptr l 0 ∷ [], (answer-vals a, tt))), tt)
 
-  goes : Room h a → (l : ℕ) (δ : GName) (ν : ℕ) → ent 𝓤 (sep 𝓤 (A .lft (ν ∷ []) fullShare) (sem 𝓤 H A (MutRef (named 0) (ν ∷ []) T.the-row .own (lent l δ) (vptr l 0 ∷ [])))) (Bring 𝓤 H A at-mem run .pre (to-bring l δ ν))
+  goes : Room h a → (l : ℕ) (δ : GName) (ν : ℕ)
+      → ent 𝓤 (sep 𝓤 (A .lft (ν ∷ []) fullShare) (sem 𝓤 H A (MutRef (named 0) (ν ∷ []) T.the-row .own (lent l δ) (vptr l 0 ∷ []))))
+      (Bring 𝓤 H A at-mem run .pre (to-bring l δ ν))
   goes few l δ ν =
       qed W (‵ (flft (ν ∷ []) fullShare) ∷ ‵ (MutRef (named 0) (ν ∷ []) T.the-row .own (lent l δ) (vptr l 0 ∷ [])) ∷ []) ∵ says ! few $ nothing ! $ move ! (1 ∷ 0 ∷ []) $ join ! $ frame ! $
       nothing ! $ owned ! An.the-row (Is An.the-row) (LL.makes An.the-type An′.the-plain 𝓤 H A) a _ a-is $ fjoin ! $ move ! (1 ∷ 0 ∷ []) $ fjoin ! $ done !
@@ -123,7 +126,8 @@ module _ {M : Type 1} (𝓤 : URA M) (H : Heap 𝓤) (A : Atoms 𝓤) (W : Given
     walk few =
         qed W (‵ ftrue ∷ ‵ (owns (T.the-row ∷ An.the-row ∷ []) x at) ∷ []) ∵ enter ! C Λ code.function (val h ∷ answer-vals a) _ $
         alloc1 ! (λ l₀. alloc1 ! (λ l₁. alloc1 ! (λ l₂. alloc1 ! (λ l₃. alloc1 ! (λ l₄. alloc1 ! (λ l₅. alloc0 ! $ params1 ! $
-        pass1 ! (init ! 8 refl (LL.lawful T.the-type T′.the-laws 𝓤 H A W .typed h _ h-is .0)) $ pass1 ! (init ! 6 refl (LL.lawful An.the-type An′.the-laws 𝓤 H A W .typed a _ a-is .0)) $ pass0 ! $
+        pass1 ! (init ! 8 refl (LL.lawful T.the-type T′.the-laws 𝓤 H A W .typed h _ h-is .0)) $
+        pass1 ! (init ! 6 refl (LL.lawful An.the-type An′.the-laws 𝓤 H A W .typed a _ a-is .0)) $ pass0 ! $
         -- [room for _5; …; room for _4; …; room for _3; …; _2; …; _1; …; room for _0; …]
         assigns ! (of-opd ! (load ! (from ! (stop !)) (look ! 8 refl))) (from ! (stop !)) (init ! 4 refl (LL.lawful T.the-type T′.the-laws 𝓤 H A W .typed h _ h-is .0)) $
         assigns ! (addr ! (from ! (stop !))) (from ! (stop !)) (init ! 0 refl (tt, tt)) $
@@ -131,13 +135,18 @@ module _ {M : Type 1} (𝓤 : URA M) (H : Heap 𝓤) (A : Atoms 𝓤) (W : Given
         move ! (4 ∷ []) $ use1 W (‵ (cellAt fullShare (T.the-row .mir) (vals h) l₃ 0)) (W .laws .at-raw fullShare T′.mir l₃ 0 (val h)) $
         owned ! T.the-row (Is T.the-row) (LL.makes T.the-type T′.the-plain 𝓤 H A) h _ h-is $ move ! (1 ∷ 0 ∷ []) $ use2 W (‵ (mem T.the-row .lies h l₃ 0)) (lies 𝓤 H A W h l₃ 0 (vals h)) $
         lft-new ! tt (λ ν. move ! (1 ∷ []) $
-        use1 W (later (some (λ (δ : GName). ‵ (MutRef (named 0) (ν ∷ []) T.the-row .own (lent l₃ δ) (vptr l₃ 0 ∷ [])) ⊛ ‵ (flent (ν ∷ []) (Body (mem T.the-row) l₃ 0 δ))))) (lends-ref 𝓤 H A W T.the-row (named 0) (ν ∷ []) h l₃ 0) $ await ! tt $ pick ! (λ δ. split ! $
+        use1 W (later (some (λ (δ : GName). ‵ (MutRef (named 0) (ν ∷ []) T.the-row .own (lent l₃ δ) (vptr l₃ 0 ∷ [])) ⊛
+        ‵ (flent (ν ∷ []) (Body (mem T.the-row) l₃ 0 δ))))) (lends-ref 𝓤 H A W T.the-row (named 0) (ν ∷ []) h l₃ 0) $ await ! tt $ pick ! (λ δ. split ! $
         move ! (2 ∷ 0 ∷ []) $ use2 W (raw (Bring 𝓤 H A at-mem run .pre (to-bring l₃ δ ν))) (goes few l₃ δ ν) $
         -- [what the callee asks; the lender's part; _5; …; room for _4; …; what frees _3; _2; …; _1; …; room for _0; …]
-        calls-at ! fm (Bring 𝓤 H A at-mem run) known (to-bring l₃ δ ν) (and-then ! (load ! (from ! (stop !)) (look ! 2 refl)) (and-then ! (load ! (from ! (stop !)) (look ! 7 refl)) (no-more !))) (λ w.
-        use1 W (later (some (λ (u : Unit {0}). ((‵ (flft (ν ∷ []) fullShare) ⊛ ‵ ftrue) ⊛ ‵ (unit .own u (w ∷ []))) ⊛ raw (ensured 𝓤 H A bring.ended (bring.clauses 𝓤 H A at-mem run) (ν ∷ [], tt) (lent l₃ δ, (a, tt)) tt u)))) (id⊢ 𝓤 _) $ await ! tt $ pick ! (λ u.
+        calls-at ! fm (Bring 𝓤 H A at-mem run) known (to-bring l₃ δ ν)
+        (and-then ! (load ! (from ! (stop !)) (look ! 2 refl)) (and-then ! (load ! (from ! (stop !)) (look ! 7 refl)) (no-more !))) (λ w.
+        use1 W (later (some (λ (u : Unit {0}). ((‵ (flft (ν ∷ []) fullShare) ⊛ ‵ ftrue) ⊛ ‵ (unit .own u (w ∷ []))) ⊛
+        raw (ensured 𝓤 H A bring.ended (bring.clauses 𝓤 H A at-mem run) (ν ∷ [], tt) (lent l₃ δ, (a, tt)) tt u)))) (id⊢ 𝓤 _) $ await ! tt $ pick ! (λ u.
         -- what it ensures, at some last value
-        split ! $ move ! (1 ∷ []) $ use1 W (some (λ (zs : Counters × (Unit {0} × Unit {0})). ‵ (lasts bring.ended (ν ∷ [], tt) (lent l₃ δ, (a, tt)) zs) ⊛ raw (fact 𝓤 (zs .0 ≡ countersAfter h a)))) (id⊢ 𝓤 _) $ pick ! (λ zs.
+        split ! $ move ! (1 ∷ []) $
+        use1 W (some (λ (zs : Counters × (Unit {0} × Unit {0})). ‵ (lasts bring.ended (ν ∷ [], tt) (lent l₃ δ, (a, tt)) zs) ⊛ raw (fact 𝓤 (zs .0 ≡ countersAfter h a))))
+        (id⊢ 𝓤 _) $ pick ! (λ zs.
         split ! $ move ! (1 ∷ []) $ heard ! (zs .0 ≡ countersAfter h a) (λ e. fsplit ! $ move ! (2 ∷ []) $ split ! $ move ! (1 ∷ []) $ feqL ! (λ i.
         land ! (from ! (stop !)) (init ! 6 refl (subst (λ (y : Val). Holds (hasTy tyUnit y) × WT y) (sym (ap only i)) (tt, tt))) $
         -- the lifetime is ended, and the local comes back at that value
@@ -149,20 +158,25 @@ module _ {M : Type 1} (𝓤 : URA M) (H : Heap 𝓤) (A : Atoms 𝓤) (W : Given
         -- [_3; what it owns; true; true; _5; …; _4; …; what frees _3; _2; …; _1; …; room for _0; …]
         assigns ! (of-opd ! (load ! (from ! (stop !)) (look ! 0 refl))) (from ! (stop !)) (init ! 13 refl (LL.lawful T.the-type T′.the-laws 𝓤 H A W .typed (zs .0) _ r-is .0)) $
         returns ! (look ! 13 refl) $ forget ! 0 refl $ forget ! 4 refl $ forget ! 6 refl $ forget ! 9 refl $ forget ! 11 refl $ forget ! 13 refl $
-        move ! (13 ∷ 14 ∷ []) $ free1 ! $ move ! (11 ∷ 12 ∷ []) $ free1 ! $ move ! (9 ∷ 10 ∷ []) $ free1 ! $ move ! (0 ∷ 8 ∷ []) $ free1 ! $ move ! (5 ∷ 6 ∷ []) $ free1 ! $ move ! (3 ∷ 4 ∷ []) $ free1 ! $ free0 ! $
+        move ! (13 ∷ 14 ∷ []) $ free1 ! $ move ! (11 ∷ 12 ∷ []) $ free1 ! $ move ! (9 ∷ 10 ∷ []) $ free1 ! $ move ! (0 ∷ 8 ∷ []) $ free1 ! $ move ! (5 ∷ 6 ∷ []) $
+        free1 ! $ move ! (3 ∷ 4 ∷ []) $ free1 ! $ free0 ! $
         keep ! (0 ∷ []) $ by ! (exits (zs .0) e))))))))))))))))
 
 module _ {M : Type 1} (𝓤 : URA M) (H : Heap 𝓤) (A : Atoms 𝓤) (W : Given 𝓤 H A) (at-mem : Memory → SProp 𝓤) (run : Routine → Fun 𝓤) where
-  this-walks : (C : Calls 𝓤 H) (Λ : Loops 𝓤 H) → FmC 𝓤 H (W .laws) C → Triple 𝓤 (C #counters·bring-up-to-date) (Bring 𝓤 H A at-mem run) → Walks 𝓤 H A this.ended stayed (WpFn 𝓤 H C Λ code.function) (this.clauses 𝓤 H A at-mem run)
-  this-walks C Λ fm known = walked 𝓤 H A this.ended stayed (this.clauses 𝓤 H A at-mem run) (WpFn 𝓤 H C Λ code.function) (λ κs. (vals, (answer-vals, tt))) (λ κs. (LL.tells T.the-type T′.the-laws, (LL.tells An.the-type An′.the-laws, tt)))
+  this-walks : (C : Calls 𝓤 H) (Λ : Loops 𝓤 H) → FmC 𝓤 H (W .laws) C → Triple 𝓤 (C #counters·bring-up-to-date) (Bring 𝓤 H A at-mem run)
+      → Walks 𝓤 H A this.ended stayed (WpFn 𝓤 H C Λ code.function) (this.clauses 𝓤 H A at-mem run)
+  this-walks C Λ fm known = walked 𝓤 H A this.ended stayed (this.clauses 𝓤 H A at-mem run) (WpFn 𝓤 H C Λ code.function) (λ κs. (vals, (answer-vals, tt)))
+      (λ κs. (LL.tells T.the-type T′.the-laws, (LL.tells An.the-type An′.the-laws, tt)))
       (λ κs qs bounds y _ are. needs 𝓤 _ _ (walk 𝓤 H A W at-mem run (y .0) (y .1 .0) (are .0) (are .1 .0) C Λ fm known))
 
   goes-all : AllGo 𝓤 H A W 0 (this.signature .params) (this.ended .kept) stayed
   goes-all = (goes-none 𝓤 H A W 0 (λ _. T.the-row) yes (λ κs x f. refl), (goes-none 𝓤 H A W 0 (λ _. An.the-row) yes (λ κs x f. refl), tt))
 
-this-meets : {M : Type 1} (𝓤 : URA M) (H : Heap 𝓤) (A : Atoms 𝓤) → Given 𝓤 H A → (at-mem : Memory → SProp 𝓤) (run : Routine → Fun 𝓤) (𝓣 : Tables 𝓤 H) → Triple 𝓤 (𝓣 .C #counters·bring-up-to-date) (Bring 𝓤 H A at-mem run)
+this-meets : {M : Type 1} (𝓤 : URA M) (H : Heap 𝓤) (A : Atoms 𝓤) → Given 𝓤 H A → (at-mem : Memory → SProp 𝓤) (run : Routine → Fun 𝓤) (𝓣 : Tables 𝓤 H)
+    → Triple 𝓤 (𝓣 .C #counters·bring-up-to-date) (Bring 𝓤 H A at-mem run)
     → Meets 𝓤 H A this.signature (WpFn 𝓤 H (𝓣 .C) (𝓣 .Λ) code.function) (this.spec 𝓤 H A at-mem run)
-this-meets 𝓤 H A W at-mem run 𝓣 known = walk-meets 𝓤 H A this.ended stayed W (goes-all 𝓤 H A W at-mem run) (this.clauses 𝓤 H A at-mem run) (WpFn 𝓤 H (𝓣 .C) (𝓣 .Λ) code.function) (WpFn-mono 𝓤 H (W .laws) 𝓣 code.function) (this-walks 𝓤 H A W at-mem run (𝓣 .C) (𝓣 .Λ) (fmOf 𝓤 H (W .laws) 𝓣) known)
+this-meets 𝓤 H A W at-mem run 𝓣 known = walk-meets 𝓤 H A this.ended stayed W (goes-all 𝓤 H A W at-mem run) (this.clauses 𝓤 H A at-mem run)
+    (WpFn 𝓤 H (𝓣 .C) (𝓣 .Λ) code.function) (WpFn-mono 𝓤 H (W .laws) 𝓣 code.function) (this-walks 𝓤 H A W at-mem run (𝓣 .C) (𝓣 .Λ) (fmOf 𝓤 H (W .laws) 𝓣) known)
 
 pub updated-spec : {M : Type 1} → stated.statement M
 unfolding code.routine tablesOf

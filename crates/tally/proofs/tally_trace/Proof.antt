@@ -40,7 +40,8 @@ returns-2 c =
     let w = whole-is _ (after-trace-refusal .trace-refusal .ensures) (else-1 .if1 .left) (after-shape-in .shape-in .ensures)
     (after-orders-in .orders-in .ensures .0) in
     tally-counted _ (after-trace-refusal .trace-refusal .ensures) (else-1 .if1 .left) (after-shape-in .shape-in .ensures)
-    (after-orders-in .orders-in .ensures .0) (w .1 .0) (zero-row {n = length (start .args .row .now)} (after-clear-bytes .clear-bytes .ensures) (start .pre)) (after-tally-orders .tally-orders .ensures)
+    (after-orders-in .orders-in .ensures .0) (w .1 .0) (zero-row {n = length (start .args .row .now)} (after-clear-bytes .clear-bytes .ensures) (start .pre))
+    (after-tally-orders .tally-orders .ensures)
 
 pub tally-trace-spec : {M : Type 1} → statement M
 tally-trace-spec =
