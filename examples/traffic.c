@@ -126,14 +126,13 @@ static void print_total(const char *name, size_t place)
 
 static void print_totals(void)
 {
-    static const char *const kinds[MOESI_KINDS] = {"reads", "writes", "swaps", "flushes", "device reads",
-                                                   "device writes"};
+    static const char *const kinds[] = {"reads", "writes", "swaps", "flushes", "device reads", "device writes"};
 
     printf("accepted orders, and words from and to main memory (a device read is one of its reads):\n  %-14s", "");
     for (int k = 0; k < DRIVERS; k++)
         printf(" %12s", drivers[k].name);
     printf("\n");
-    for (size_t kind = 0; kind < MOESI_KINDS; kind++)
+    for (size_t kind = 0; kind < sizeof kinds / sizeof kinds[0]; kind++)
         print_total(kinds[kind], MOESI_TOTAL_ACCEPTED(kind));
     print_total("memory reads", MOESI_TOTAL_READS);
     print_total("memory writes", MOESI_TOTAL_WRITES);

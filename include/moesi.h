@@ -128,9 +128,11 @@
  * nowhere: it is given before anything else is looked at where a total has no
  * room for an order more, and it changes neither memory nor tables nor record.
  * For a record from zeros that nobody else writes this is proved: each total is
- * the sum over the answers given so far other than 9. As long as 9 is not given,
- * answers, memory and tables are those that moesi_step gives, and what is said
- * above of devices holds.
+ * the sum over the answers given so far other than 9. And whatever the record
+ * holds: where it has its length and 9 is not given, the call returns, answers and
+ * leaves what moesi_step does; else memory and tables stay as they were. So what
+ * is said above of a model's memory and tables holds of calls with and without a
+ * record alike.
  */
 
 #ifndef MOESI_H

@@ -7,7 +7,7 @@ use mathlib.Core.Bool.{Bool, true, false, cond, _&&_, not}
 use mathlib.Core.List.{List, [], _∷_}
 use native.Mathlib.Omega.{arith}
 use native.Mathlib.Decide.{ℕ-discrete}
-use lib.ListN.{getD, set, length, replicate, length-set, getD-replicate}
+use lib.ListN.{length, length-set, getD-replicate}
 use lib.Seq.{getD-set-same, getD-set-other}
 use lib.Dec.{eqb, ltb}
 use borrow.Author.Tests.{eq-eqb, ne-eqb, ltb-true, ltb-false, not-true}
@@ -19,7 +19,7 @@ use Rattle.model.specs.Order.{Order, kinds, kindOf}
 use Rattle.model.specs.Tables.{Model}
 use Rattle.model.specs.Step.{refused, step}
 use Rattle.model.specs.Flat.{Flat, flatStep}
-use Rattle.model.specs.Agreement.{Agrees, AgreesOver}
+use Rattle.model.specs.Agreement.{AgreesOver}
 use Rattle.model.specs.Marks.{modelRun}
 use Rattle.model.proofs.Claims.{never-nine}
 use Rattle.model.proofs.Theorem.{agreement}
@@ -53,14 +53,17 @@ other-counts : (f : Answered → ℕ) (x : Answered) → x .answer .refusal ≢ 
 unfolding others sumOf
 other-counts f x d = rw (ne-eqb (x .answer .refusal) 9 d) (omega arith)
 
--- What one answer adds: m are the totals after it, n those before.
-pub record Adds (n m : Totals) (x : Answered) : Type 0 where
-  pub accepted : (k : ℕ) → k < kinds → totalAt m k ≡ totalAt n k + sumOf (acceptedIn k) (others (x ∷ []))
-  pub refused : totalAt m refusedPlace ≡ totalAt n refusedPlace + sumOf refusedIn (others (x ∷ []))
-  pub reads : totalAt m readsPlace ≡ totalAt n readsPlace + sumOf readsIn (others (x ∷ []))
-  pub writes : totalAt m writesPlace ≡ totalAt n writesPlace + sumOf writesIn (others (x ∷ []))
-  pub swaps : totalAt m swapsPlace ≡ totalAt n swapsPlace + sumOf swappedIn (others (x ∷ []))
+-- Totals n grow to m by the sums over a list of answers; by what one answer adds.
+pub record Grows (n m : Totals) (xs : List Answered) : Type 0 where
+  pub accepted : (k : ℕ) → k < kinds → totalAt m k ≡ totalAt n k + sumOf (acceptedIn k) (others xs)
+  pub refused : totalAt m refusedPlace ≡ totalAt n refusedPlace + sumOf refusedIn (others xs)
+  pub reads : totalAt m readsPlace ≡ totalAt n readsPlace + sumOf readsIn (others xs)
+  pub writes : totalAt m writesPlace ≡ totalAt n writesPlace + sumOf writesIn (others xs)
+  pub swaps : totalAt m swapsPlace ≡ totalAt n swapsPlace + sumOf swappedIn (others xs)
   pub same : length m ≡ length n
+
+abbrev pub Adds : Totals → Totals → Answered → Type 0
+Adds n m x = Grows n m (x ∷ [])
 
 -- Refusal 9 adds nothing.
 pub adds-none : (n : Totals) (k : ℕ) → Adds n n (answered k (refused 9))
@@ -197,14 +200,6 @@ adds-step s o t n l =
     (λ _. adds-answer n (kindOf o) (step s o t .answer) l (step-few s o t) (never-nine s o t))
 
 -- From any totals, each grows by its sum over the answers.
-pub record Grows (n m : Totals) (xs : List Answered) : Type 0 where
-  pub accepted : (k : ℕ) → k < kinds → totalAt m k ≡ totalAt n k + sumOf (acceptedIn k) (others xs)
-  pub refused : totalAt m refusedPlace ≡ totalAt n refusedPlace + sumOf refusedIn (others xs)
-  pub reads : totalAt m readsPlace ≡ totalAt n readsPlace + sumOf readsIn (others xs)
-  pub writes : totalAt m writesPlace ≡ totalAt n writesPlace + sumOf writesIn (others xs)
-  pub swaps : totalAt m swapsPlace ≡ totalAt n swapsPlace + sumOf swappedIn (others xs)
-  pub same : length m ≡ length n
-
 pub grows-none : (n : Totals) → Grows n n []
 unfolding others sumOf
 grows-none n = record {

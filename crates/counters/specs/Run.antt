@@ -120,6 +120,6 @@ AgreementWithTotals =
     (s : Shape) (t : Model) → lentRefusal s t ≡ 0 → (os : List Order) (n : Totals) → Without9 (answersWith s os (fresh s t) n)
     → AgreesWith s os (fresh s t) n (flatStart (t .memory))
 
--- An order adds at most two to a total.
+-- After a run from zeros no total is above twice the number of its orders.
 abbrev pub TwoToAnOrder : Type 0
 TwoToAnOrder = (s : Shape) (os : List Order) (t : Model) (k : ℕ) → totalAt (totalsWith s os t zeros) k ≤ 2 * length os

@@ -6,7 +6,7 @@ use native.Mathlib.Omega.{arith}
 use native.Mathlib.Nat.{add-zero, zero-add, suc-add, add-comm, mul-zero, mul-suc}
 use lib.ListN.{getD, set, length, take, drop, take-append-drop, length-append, length-drop}
 use lib.Pow.{pow-add}
-use lib.Seq.{getD-drop, drop-drop, sets}
+use lib.Seq.{getD-drop, drop-drop, sets, length-sets}
 use Rattle.endian.specs.Little.{number, bytesOf, numbers, encoded}
 
 -- One byte more, below the others.
@@ -128,6 +128,12 @@ set-numbers w (suc n) (suc k) x bs h v r =
       set-numbers w n k x
           (drop w bs) (omega arith) v b,
     )
+
+-- The same of bytes that hold n numbers and no more, which they then still do.
+pub number-put : (w n k x : ℕ) (bs : List ℕ) → length bs ≡ w * n → k < n → x < 256 ^ w → {m : List ℕ} → m ≡ sets bs (w * k) (bytesOf w x)
+    → (length m ≡ w * n) × (numbers w n m ≡ set (numbers w n bs) k x)
+number-put w n k x bs l h v e =
+    (ap length e ∙ length-sets bs (w * k) (bytesOf w x) ∙ l, rw e (set-numbers w n k x bs h v (omega (arith, l))))
 
 -- Bytes read as numbers and written as bytes again are the same.
 same-number : (w : ℕ) (bs : List ℕ) → ((k : ℕ) → getD bs k 0 < 256) → w ≤ length bs → bytesOf w (number w bs) ≡ take w bs

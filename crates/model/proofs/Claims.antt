@@ -1,5 +1,5 @@
--- What holds on every input: a step makes few memory accesses, a refusal changes nothing, the audit says its plain facts, and finding's
--- answer has its number. Assumes nothing.
+-- What holds on every input: a step makes few memory accesses, swaps at most once and never answers 9, what it accepts is of one of the kinds, a
+-- refusal changes nothing; the audit says its plain facts, and finding's answer has its number. Assumes nothing.
 use Prim.Native.Nat.{ℕ, _<_, _≤_}
 use mathlib.Core.Path.{_≡_, refl}
 use mathlib.Core.Logic.{_≢_}

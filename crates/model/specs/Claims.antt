@@ -22,7 +22,7 @@ SwappedOnce = (s : Shape) (o : Order) (t : Model) → step s o t .answer .swappe
 abbrev pub AcceptedKind : Type 0
 AcceptedKind = (s : Shape) (o : Order) (t : Model) → step s o t .answer .refusal ≡ 0 → kindOf o < kinds
 
--- The step never gives refusal 9: that is a record's of totals alone.
+-- The step never gives refusal 9: it belongs to the step with a record of totals alone.
 abbrev pub NeverNine : Type 0
 NeverNine = (s : Shape) (o : Order) (t : Model) → step s o t .answer .refusal ≢ 9
 

@@ -8,11 +8,11 @@ use native.Mathlib.Omega.{arith}
 use native.Mathlib.Nat.{mul-zero, mul-suc, add-comm}
 use lib.Dec.{eqb}
 use lib.ListN.{getD, set, length, replicate, replicate-append-replicate}
-use lib.Seq.{sets, length-sets}
+use lib.Seq.{sets}
 use borrow.Author.Tests.{eq-eqb, ne-eqb, eqb-true}
 use Rattle.words.proofs.Bools.{Is, and-l, and-r, by-cond}
 use Rattle.endian.specs.Little.{numbers, bytesOf, encoded}
-use Rattle.endian.proofs.Little.{set-numbers, same-bytes}
+use Rattle.endian.proofs.Little.{number-put, same-bytes}
 use Rattle.model.specs.declared.shape.Shape.{Shape}
 use Rattle.model.specs.declared.answer.Answer.{Answer}
 use Rattle.model.specs.Shape.{inRange, entries}
@@ -100,19 +100,15 @@ pub answer-stored : (a : Answer) (l : List ℕ) → length l ≡ 40 → a .refus
     → l₄ ≡ sets l₃ 24 (bytesOf 8 (a .reads)) → l₅ ≡ sets l₄ 32 (bytesOf 8 (a .writes)) → AreBytes l₅ → l₅ ≡ answerBytes a
 unfolding answerBytes
 answer-stored a l n f₀ f₁ f₂ f₃ f₄ {l₁} {l₂} {l₃} {l₄} {l₅} e₁ e₂ e₃ e₄ e₅ b =
-    let s₀ = stored-at 0 l n (a .refusal) f₀ e₁ (omega arith) in
-    let s₁ = stored-at 1 l₁ (s₀ .0) (a .value) f₁ e₂ (omega arith) in
-    let s₂ = stored-at 2 l₂ (s₁ .0) (a .swapped) f₂ e₃ (omega arith) in
-    let s₃ = stored-at 3 l₃ (s₂ .0) (a .reads) f₃ e₄ (omega arith) in
-    let s₄ = stored-at 4 l₄ (s₃ .0) (a .writes) f₄ e₅ (omega arith) in
+    let s₀ = number-put 8 5 0 (a .refusal) l n (omega arith) (omega (arith, f₀)) e₁ in
+    let s₁ = number-put 8 5 1 (a .value) l₁ (s₀ .0) (omega arith) (omega (arith, f₁)) e₂ in
+    let s₂ = number-put 8 5 2 (a .swapped) l₂ (s₁ .0) (omega arith) (omega (arith, f₂)) e₃ in
+    let s₃ = number-put 8 5 3 (a .reads) l₃ (s₂ .0) (omega arith) (omega (arith, f₃)) e₄ in
+    let s₄ = number-put 8 5 4 (a .writes) l₄ (s₃ .0) (omega arith) (omega (arith, f₄)) e₅ in
     sym (same-bytes 8 5 l₅ b (s₄ .0))
     ∙ ap (encoded 8) (s₄ .1 ∙ ap (λ (x : List ℕ). set x 4 (a .writes))
     (s₃ .1 ∙ ap (λ (x : List ℕ). set x 3 (a .reads)) (s₂ .1 ∙ ap (λ (x : List ℕ). set x 2 (a .swapped)) (s₁ .1
     ∙ ap (λ (x : List ℕ). set x 1 (a .value)) (s₀ .1)))) ∙ five-set (a .refusal) (a .value) (a .swapped) (a .reads) (a .writes) l)
-  where
-    stored-at : (k : ℕ) (m : List ℕ) → length m ≡ 40 → (x : ℕ) → x < 2 ^ 64 → {m' : List ℕ} → m' ≡ sets m (8 * k) (bytesOf 8 x)
-        → k < 5 → (length m' ≡ 40) × (numbers 8 5 m' ≡ set (numbers 8 5 m) k x)
-    stored-at k m n x f e q = (ap length e ∙ length-sets m (8 * k) (bytesOf 8 x) ∙ n, rw e (set-numbers 8 5 k x m q (omega arith) (omega arith)))
 
 -- A call of step: accepted, refused with the answer written, refused with a slice of another length.
 module _ (s : Shape) (o : Order) (b : Bytes) (out : List ℕ) {n : ℕ} (en : n ≡ hostRefusal s b (eqb (length out) 40)) where

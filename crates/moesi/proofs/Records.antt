@@ -1,28 +1,28 @@
--- Any list of calls on one record: each total in it is its sum over the answers. Assumes nothing.
-use Prim.Native.Nat.{ℕ, _+_, _*_, _^_, _<_, _≤_}
+-- Any list of calls on one record: each total in it is its sum over the answers, and what the calls leave beside it. Assumes nothing.
+use Prim.Native.Nat.{ℕ, _*_, _^_, _<_}
 use mathlib.Core.Path.{_≡_, refl, sym, ap, _∙_}
-use mathlib.Core.Bool.{true, false, cond}
+use mathlib.Core.Bool.{true, false}
 use mathlib.Core.List.{List, [], _∷_}
 use native.Mathlib.Omega.{arith}
+use native.Mathlib.Decide.{ℕ-discrete}
 use lib.Dec.{eqb, ltb}
 use lib.ListN.{getD, length}
-use borrow.Author.Tests.{eq-eqb, eqb-true, ltb-true, ltb-false, not-true}
-use Rattle.words.proofs.Bools.{by-bool}
+use borrow.Author.Tests.{eq-eqb, ltb-true, ltb-false, not-true}
+use Rattle.words.proofs.Bools.{and-all, by-bool}
 use Rattle.endian.specs.Little.{number, numbers}
 use Rattle.endian.proofs.Little.{length-numbers, numbers-back, length-encoded}
-use Rattle.ports.specs.Bytes.{modelIn}
+use Rattle.ports.specs.Bytes.{Bytes}
 use Rattle.model.specs.declared.answer.Answer.{Answer}
 use Rattle.model.specs.Order.{kindOf}
-use Rattle.model.specs.Step.{refused, step}
-use Rattle.counters.specs.Totals.{Totals, places, totalAt, most, zeros, full, totalsAfter, Few, stepTotals, recordLength, totalsIn, recordOf}
-use Rattle.counters.specs.Run.{Answered, answered}
+use Rattle.model.specs.Step.{refused}
+use Rattle.counters.specs.Totals.{Totals, places, zeros, full, totalsAfter, Few, stepTotals, recordLength, totalsIn, recordOf}
+use Rattle.counters.specs.Run.{answered}
 use Rattle.counters.proofs.Places.{room-at}
 use Rattle.counters.proofs.Sums.{Adds, adds-none, adds-answer, after-most, after-length, beyond, Grows, grows-none, grows-more, from-zeros}
-use Rattle.moesi.specs.Host.{inBytes, hostRefusal, answerBytes, Hosted, hosted, hostStep}
-use Rattle.moesi.specs.Totals.{isRecord, recordRefusal, recordRefused, HostedTotals, withRecord, refusalPut, hostStepTotals}
-use Rattle.moesi.specs.Totals.{HostCall, leaves, answerTo, AnswerShown, answersOn, recordOn, zeroRecord, RecordsAreSums}
-use Rattle.moesi.proofs.Host.{out-fits}
-use Rattle.moesi.proofs.Totals.{and-all, stepAnswer, step-counts, answer-not-nine, call-counted}
+use Rattle.moesi.specs.Host.{hostRefusal, hosted, hostStep}
+use Rattle.moesi.specs.Totals.{recordRefusal, recordRefused, HostedTotals, refusalPut, hostStepTotals}
+use Rattle.moesi.specs.Totals.{HostCall, leaves, answerTo, AnswerShown, RecordBeside, answersOn, recordOn, zeroRecord, RecordsAreSums}
+use Rattle.moesi.proofs.Totals.{stepAnswer, step-counts, answer-not-nine, record-misfit, record-full, call-counted}
 
 -- Totals with an answer counted, written and read again.
 read-again : (n : Totals) (kind : ℕ) (a : Answer) → length n ≡ places → full n ≡ false → Few kind a
@@ -88,3 +88,21 @@ answer-shown c bs =
     by-bool (eqb (recordRefusal (c .shape) (c .lent) (c .out) bs) 0)
     (λ z. (rw z, λ _. rw z))
     (λ z. let y = not-true (eqb (recordRefusal (c .shape) (c .lent) (c .out) bs) 0) z in (rw y, λ w. rw (y, eq-eqb (length (c .out)) 40 w)))
+
+pub record-beside : RecordBeside
+record-beside c bs = (same, other)
+  where
+    same : length bs ≡ recordLength → full (totalsIn bs) ≡ false → leaves c bs .hosted ≡ hostStep (c .shape) (c .order) (c .lent) (c .out)
+    same h f =
+        sym (ap (λ (x : HostedTotals). x .hosted) (call-counted (c .shape) (c .order) (c .lent) (c .out) bs (eq-eqb (length bs) recordLength h) f))
+
+    lent-of : HostedTotals → Bytes
+    lent-of x = x .hosted .lent
+
+    other : (length bs ≡ recordLength → full (totalsIn bs) ≡ true) → leaves c bs .hosted .lent ≡ c .lent
+    other g =
+        elim (ℕ-discrete (length bs) recordLength) [
+          | yes h ↦ sym (ap lent-of (record-full (c .shape) (c .order) (c .lent) (c .out) bs h (g h) {out' = refusalPut 9 (c .out)} refl))
+          | no d ↦ sym (ap lent-of (record-misfit (c .shape) (c .order) (c .lent) (c .out) bs d {n = hostRefusal (c .shape) (c .lent) false} refl
+              {out' = refusalPut (hostRefusal (c .shape) (c .lent) false) (c .out)} refl))
+        ]

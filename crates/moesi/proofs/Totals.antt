@@ -1,5 +1,5 @@
 -- A call of step with a record, by its three ways. Assumes nothing.
-use Prim.Native.Nat.{ℕ, _*_, _^_, _<_, _≤_}
+use Prim.Native.Nat.{ℕ, _*_, _^_, _<_}
 use mathlib.Core.Path.{_≡_, refl, sym, ap, _∙_}
 use mathlib.Core.Logic.{_≢_}
 use mathlib.Core.Bool.{Bool, true, false, cond, _&&_}
@@ -8,8 +8,8 @@ use native.Mathlib.Omega.{arith}
 use lib.Dec.{eqb}
 use lib.ListN.{getD, length, drop}
 use borrow.Author.Tests.{eq-eqb, ne-eqb, eqb-true, eqb-false, not-true}
-use Rattle.words.proofs.Bools.{Is, and-none, by-bool, by-cond}
-use Rattle.endian.specs.Little.{number, numbers, encoded}
+use Rattle.words.proofs.Bools.{and-none, and-all, by-bool, by-cond}
+use Rattle.endian.specs.Little.{number, encoded}
 use Rattle.endian.proofs.Little.{number-at, same-bytes}
 use Rattle.ports.specs.Bytes.{Bytes, modelIn}
 use Rattle.model.specs.declared.shape.Shape.{Shape}
@@ -20,13 +20,9 @@ use Rattle.model.specs.Step.{Result, accepted, refused, step}
 use Rattle.model.proofs.Claims.{refused-changes-nothing, never-nine}
 use Rattle.counters.specs.Totals.{Totals, places, full, totalsAfter, Few, stepTotals, recordLength, totalsIn, recordOf}
 use Rattle.counters.proofs.Answers.{step-few, refused-few}
-use Rattle.moesi.specs.Host.{inBytes, bytesFit, refusalBy, hostRefusal, answerBytes, Hosted, hosted, hostStep}
-use Rattle.moesi.specs.Totals.{isRecord, recordRefusal, recordRefused, HostedTotals, withRecord, refusalPut, countsIn, hostStepTotals}
+use Rattle.moesi.specs.Host.{bytesFit, refusalBy, hostRefusal, answerBytes, Hosted, hosted, hostStep}
+use Rattle.moesi.specs.Totals.{isRecord, recordRefusal, recordRefused, withRecord, refusalPut, countsIn, hostStepTotals}
 use Rattle.moesi.proofs.Host.{out-fits, AreBytes}
-
-pub and-all : (x : Bool) → (x && true) ≡ x
-and-all true = refl
-and-all false = refl
 
 -- A refusal, put where the slice has its length, or not.
 pub put-fits : (n : ℕ) (out : List ℕ) → length out ≡ 40 → {out' : List ℕ} → out' ≡ answerBytes (refused n) → out' ≡ refusalPut n out
@@ -37,7 +33,7 @@ pub put-other : (n : ℕ) (out : List ℕ) → length out ≢ 40 → out ≡ ref
 unfolding refusalPut
 put-other n out h = rw (ne-eqb (length out) 40 h)
 
--- What the counters are told.
+-- What is counted of a call.
 pub counts-refused : (n : ℕ) (out : List ℕ) → n ≢ 0 → {a : Answer} → a ≡ refused n → a ≡ countsIn n out
 unfolding countsIn
 counts-refused n out h e = e ∙ rw (ne-eqb n 0 h)
@@ -95,10 +91,10 @@ module _ (s : Shape) (o : Order) (b : Bytes) (out : List ℕ) where
   pub answer-not-nine : stepAnswer .refusal ≢ 9
   answer-not-nine = by-cond (λ (a : Answer). a .refusal ≢ 9) (eqb refusal 0) _ _ (λ _. never-nine s o (modelIn s b)) (λ _. not-nine)
 
-  -- What the call tells the counters is its answer, but for the value.
-  told : (a : Answer) → a ≡ step s o (modelIn s b) .answer → (n : ℕ) → n ≡ a .refusal → countsIn n (answerBytes a) ≡ counted a
+  -- What is read of an answer that was written is that answer, but for the value.
+  answer-read : (a : Answer) → a ≡ step s o (modelIn s b) .answer → (n : ℕ) → n ≡ a .refusal → countsIn n (answerBytes a) ≡ counted a
   unfolding countsIn
-  told a e n en =
+  answer-read a e n en =
       let few : Few (kindOf o) a = rw e (step-few s o (modelIn s b)) in
       by-bool (eqb n 0)
       (λ z. rw (
@@ -127,19 +123,19 @@ module _ (s : Shape) (o : Order) (b : Bytes) (out : List ℕ) where
         (λ y. eqb-true _ _ (out-fits s _ _ _ _ wide refl (eqb-true refusal 0 y)))
         (λ y. absurd (eqb-false refusal 0 (not-true _ y) (sym (rw (not-true (eqb refusal 0) y) at f) ∙ z)))
 
-    call-told : countsIn n out' ≡ counted stepAnswer
+    call-read : countsIn n out' ≡ counted stepAnswer
     unfolding hostStep
-    call-told =
+    call-read =
         by-bool (eqb refusal 0)
         (λ y. let f = rw y at e in
-        rw y (ap (countsIn n) (ap (λ (h : Hosted). h .out) f) ∙ told (step s o (modelIn s b) .answer) refl n (ap (λ (h : Hosted). h .refusal) f)))
+        rw y (ap (countsIn n) (ap (λ (h : Hosted). h .out) f) ∙ answer-read (step s o (modelIn s b) .answer) refl n (ap (λ (h : Hosted). h .refusal) f)))
         (λ y. let f = ap (λ (h : Hosted). h .refusal) (rw (not-true (eqb refusal 0) y) at e) in
         rw (not-true (eqb refusal 0) y) (sym (counts-refused n out' (λ z. eqb-false refusal 0 (not-true _ y) (sym f ∙ z)) refl) ∙ ap refused f))
 
-    -- What is told may be counted.
-    pub told-few : {k : ℕ} → k ≡ kindOf o → {a : Answer} → a ≡ countsIn n out' → Few k a
-    told-few ek ea =
-        rw (ek, ea, call-told) (record {
+    -- What is read may be counted.
+    pub read-few : {k : ℕ} → k ≡ kindOf o → {a : Answer} → a ≡ countsIn n out' → Few k a
+    read-few ek ea =
+        rw (ek, ea, call-read) (record {
           reads = step-counts .reads;
           writes = step-counts .writes;
           swapped = step-counts .swapped;
@@ -175,8 +171,8 @@ module _ (s : Shape) (o : Order) (b : Bytes) (out : List ℕ) where
         → {bs' : List ℕ} → totalsIn bs' ≡ totalsAfter (totalsIn bs) k a → length bs' ≡ length bs → AreBytes bs'
         → withRecord (hosted n b' out') bs' ≡ hostStepTotals s o b out bs
     record-counted h f ek e ea {bs'} em el eb =
-        let told : totalsIn bs' ≡ totalsAfter (totalsIn bs) (kindOf o) stepAnswer
-        = em ∙ rw (ek, ea, call-told e, same-counted (totalsIn bs) (kindOf o) stepAnswer) in
-        ap (withRecord _) (sym (same-bytes 8 places bs' eb (el ∙ h)) ∙ ap (encoded 8) told)
+        let after : totalsIn bs' ≡ totalsAfter (totalsIn bs) (kindOf o) stepAnswer
+        = em ∙ rw (ek, ea, call-read e, same-counted (totalsIn bs) (kindOf o) stepAnswer) in
+        ap (withRecord _) (sym (same-bytes 8 places bs' eb (el ∙ h)) ∙ ap (encoded 8) after)
         ∙ ap (λ (x : Hosted). withRecord x (recordOf (totalsAfter (totalsIn bs) (kindOf o) stepAnswer))) e
         ∙ call-counted (eq-eqb (length bs) recordLength h) f

@@ -1,7 +1,7 @@
 -- The step with a record of totals as a C host calls it, and what is proved of any list of such calls.
 use Prim.Native.Nat.{ℕ}
 use mathlib.Core.Path.{_≡_}
-use mathlib.Core.Bool.{Bool, cond, _&&_, not}
+use mathlib.Core.Bool.{Bool, true, false, cond, _&&_, not}
 use mathlib.Core.List.{List, [], _∷_}
 use lib.ListN.{length, drop, replicate}
 use lib.Dec.{eqb}
@@ -13,7 +13,7 @@ use Rattle.model.specs.Order.{Order, kindOf}
 use Rattle.model.specs.Step.{accepted, refused}
 use Rattle.counters.specs.Totals.{full, totalsAfter, stepTotals, recordLength, totalsIn, recordOf}
 use Rattle.counters.specs.Run.{Answered, answered, others, AreSums}
-use Rattle.moesi.specs.Host.{inBytes, hostRefusal, answerBytes, Hosted, hosted}
+use Rattle.moesi.specs.Host.{inBytes, hostRefusal, answerBytes, Hosted, hosted, hostStep}
 
 -- Bytes that have the length of a record.
 abbrev pub isRecord : List ℕ → Bool
@@ -40,8 +40,7 @@ withRecord h bs = record { hosted = h; totals = bs }
 unfoldable pub refusalPut : ℕ → List ℕ → List ℕ
 refusalPut n out = cond (eqb (length out) 40) (answerBytes (refused n)) out
 
--- What a call of step that returned n tells the counters: its refusal, or, of an accepted order, the swapped number and the two counts that it
--- wrote.
+-- What is counted of a call of step that returned n: its refusal, or, of an accepted order, the swapped number and the two counts that it wrote.
 unfoldable pub countsIn : ℕ → List ℕ → Answer
 countsIn n out = cond (eqb n 0) (accepted 0 (number 8 (drop 16 out)) (number 8 (drop 24 out)) (number 8 (drop 32 out))) (refused n)
 
@@ -76,6 +75,14 @@ abbrev pub AnswerShown : Type 0
 AnswerShown =
     (c : HostCall) (bs : List ℕ)
     → (leaves c bs .hosted .refusal ≡ answerTo c bs .refusal) × (length (c .out) ≡ 40 → leaves c bs .hosted .out ≡ answerBytes (answerTo c bs))
+
+-- A call on a record that has its length and room returns, answers and leaves what the step without a record does. On any other it changes
+-- neither memory nor tables.
+abbrev pub RecordBeside : Type 0
+RecordBeside =
+    (c : HostCall) (bs : List ℕ)
+    → (length bs ≡ recordLength → full (totalsIn bs) ≡ false → leaves c bs .hosted ≡ hostStep (c .shape) (c .order) (c .lent) (c .out))
+    × ((length bs ≡ recordLength → full (totalsIn bs) ≡ true) → leaves c bs .hosted .lent ≡ c .lent)
 
 -- The answers to a list of calls on one record that nobody else writes, whatever each lends beside it; and the record after them.
 unfoldable pub answersOn : List HostCall → List ℕ → List Answered

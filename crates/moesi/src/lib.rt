@@ -106,7 +106,7 @@ fn put_refusal(out: &mut [u8], n: u64)
     }
 }
 
-// What a call of step that returned n tells the counters: its refusal, or, of an accepted order, the numbers that it wrote. The value is not
+// What is counted of a call of step that returned n: its refusal, or, of an accepted order, the numbers that it wrote. The value is not
 // counted.
 fn counts_in(n: u64, out: &[u8]) -> Answer
     requires { ⌜ (n ≡ 0 → length (now out) ≡ 40) ⌝ }

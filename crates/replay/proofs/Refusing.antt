@@ -2,12 +2,13 @@
 use Prim.Native.Nat.{ℕ, _+_, _*_, _<_, _≤_}
 use mathlib.Core.Path.{_≡_, refl, sym, _∙_}
 use mathlib.Core.Logic.{_≢_}
-use mathlib.Core.Bool.{Bool, true, false, cond, _||_, not, false≢true}
+use mathlib.Core.Bool.{Bool, true, false, cond, _||_, not}
 use mathlib.Core.List.{List}
 use native.Mathlib.Omega.{arith}
 use lib.ListN.{length}
 use lib.Dec.{eqb, ltb}
 use borrow.Author.Tests.{lt-ltb, le-ltb, eq-eqb, ne-eqb, eqb-true, ltb-false, not-false}
+use Rattle.words.proofs.Bools.{neither}
 use Rattle.model.specs.declared.shape.Shape.{Shape}
 use Rattle.model.specs.Shape.{inRange}
 use Rattle.replay.specs.Trace.{shapeIn, ordersIn, traceRefusal}
@@ -22,10 +23,6 @@ none : (b c : Bool) → _≡_ {A = ℕ} (cond b 1 (cond c 0 2)) 0 → (b ≡ fal
 none true c e = absurd (omega (arith, e))
 none false true e = (refl, refl)
 none false false e = absurd (omega (arith, e))
-
-neither : (a b : Bool) → a || b ≡ false → (a ≡ false) × (b ≡ false)
-neither true b e = absurd (false≢true (sym e))
-neither false b e = (refl, e)
 
 module _ (bs : List ℕ) where
   pub whole : {n : ℕ} → n ≡ traceRefusal bs → n ≡ 0 → Whole bs

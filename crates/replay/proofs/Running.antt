@@ -18,7 +18,7 @@ use Rattle.ports.specs.Bytes.{Bytes, modelIn, Fitting}
 use Rattle.ports.proofs.Bytes.{refitted}
 use Rattle.replay.specs.Trace.{orderAt, ordersOf, five, answersTo, placed}
 
--- Five numbers to an order.
+-- As many orders as are said, and five numbers to an order.
 pub orders-length : (ws xs : List ℕ) (k n : ℕ) → length (ordersOf ws xs k n) ≡ n
 unfolding ordersOf
 orders-length ws xs k zero = refl

@@ -6,10 +6,10 @@ use mathlib.Core.List.{List}
 use native.Mathlib.Omega.{arith}
 use native.Mathlib.Decide.{ℕ-discrete}
 use lib.ListN.{getD, length, length-set}
-use lib.Seq.{sets, length-sets, getD-set-other, getD-set-same}
+use lib.Seq.{sets, getD-set-other, getD-set-same}
 use Rattle.endian.specs.Little.{bytesOf}
-use Rattle.endian.proofs.Little.{set-numbers, length-numbers}
-use Rattle.counters.specs.Totals.{Totals, places, totalAt, plus, recordLength, totalsIn}
+use Rattle.endian.proofs.Little.{number-put}
+use Rattle.counters.specs.Totals.{Totals, places, totalAt, recordLength, totalsIn}
 use Rattle.tally.specs.Tally.{addedBelow, added, Summable, rowOf}
 
 module _ (a b : Totals) where
@@ -41,10 +41,11 @@ module _ (a b : Totals) where
     unfolding addedBelow
     adding-more h q {x} {y} ex ey e =
         let m : k + 1 ≡ suc k = omega arith in
+        let put = number-put 8 places k (x + y) s (v .long) q (omega (arith, sum-fits h q ex ey)) e in
         record {
           below = omega arith;
-          long = ap length e ∙ length-sets s (8 * k) (bytesOf 8 (x + y)) ∙ v .long;
-          totals = rw (e, m) (set-numbers 8 places k (x + y) s q (omega (arith, sum-fits h q ex ey)) (omega (arith, v .long)) ∙ rw (ex, ey, v .totals));
+          long = put .0;
+          totals = rw m (put .1 ∙ rw (ex, ey, v .totals));
         }
 
     pub adding-done : places ≤ k → totalsIn s ≡ added a b

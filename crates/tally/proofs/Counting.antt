@@ -1,6 +1,6 @@
 -- One order counted, the loop over a trace's orders, and what a trace yields. Assumes nothing.
 use Prim.Native.Nat.{ℕ, suc, _+_, _*_, _-_, _<_, _≤_}
-use mathlib.Core.Path.{_≡_, refl, sym, ap, _∙_}
+use mathlib.Core.Path.{_≡_, sym, ap, _∙_}
 use mathlib.Core.Logic.{_≢_}
 use mathlib.Core.Bool.{true, false}
 use mathlib.Core.List.{List, []}
@@ -18,7 +18,7 @@ use Rattle.model.specs.Tables.{Model}
 use Rattle.model.specs.Step.{Result, result, step}
 use Rattle.replay.specs.Trace.{shapeIn, ordersIn, traceRefusal, orderAt, ordersOf, traceOrders, start}
 use Rattle.replay.proofs.Running.{orders-length}
-use Rattle.counters.specs.Totals.{Totals, places, totalAt, zeros, full, totalsAfter, stepTotals, recordLength, totalsIn}
+use Rattle.counters.specs.Totals.{Totals, totalAt, zeros, full, totalsAfter, stepTotals, recordLength, totalsIn}
 use Rattle.counters.specs.Run.{totalsWith}
 use Rattle.counters.proofs.Sums.{two-to-an-order}
 use Rattle.tally.specs.Tally.{tallied, restOf}

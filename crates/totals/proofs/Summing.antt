@@ -1,6 +1,6 @@
 -- The loop over the traces: after k of them no sum is above 4,096 k. Assumes nothing.
 use Prim.Native.Nat.{ℕ, _+_, _*_, _<_, _≤_}
-use mathlib.Core.Path.{_≡_, refl, _∙_}
+use mathlib.Core.Path.{_≡_, _∙_}
 use mathlib.Core.List.{List}
 use native.Mathlib.Omega.{arith}
 use lib.ListN.{getD-replicate, length}
@@ -8,7 +8,7 @@ use lib.Dec.{ltb}
 use borrow.Author.Tests.{ltb-true, ltb-false, not-true}
 use Rattle.words.proofs.Bools.{by-bool}
 use Rattle.endian.proofs.Little.{length-numbers}
-use Rattle.counters.specs.Totals.{Totals, places, totalAt, zeros, recordLength, totalsIn}
+use Rattle.counters.specs.Totals.{places, totalAt, zeros, recordLength, totalsIn}
 use Rattle.counters.proofs.Sums.{beyond}
 use Rattle.tally.specs.Tally.{added, Summable}
 use Rattle.tally.proofs.Adding.{sum-most}

@@ -3,7 +3,7 @@
 // its refusal and ends the reading. What it prints for the traces in the file stdin is kept in the file stdout.
 use counters::lent;
 ghost use mathlib.Core.Path.{_≡_};
-ghost use Prim.Native.Nat.{ℕ, _≤_};
+ghost use Prim.Native.Nat.{_≤_};
 ghost use lib.ListN.{length};
 ghost use Rattle.counters.specs.Totals.{zeros, recordLength, totalsIn};
 
@@ -30,7 +30,8 @@ fn put_row(number: u64, row: &[u8])
     put(tally::row_number(number, row, lent::PLACES), b"\n");
 }
 
-// The next trace, as long as its sizes say: how many of its bytes there were. 0 at the end of input.
+// The next trace: its 16 bytes of sizes, and behind them as many as a trace of these sizes has, none where they say too many orders. Returns how
+// many bytes there were, 0 at the end of input.
 fn read_trace(buffer: &mut [u8]) -> usize
     requires { ⌜ length (now buffer) ≡ 32784 ⌝ }
     ensures { λ r. ⌜ r ≤ 32784 ⌝ }

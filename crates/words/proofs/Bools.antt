@@ -1,6 +1,6 @@
 -- Reasoning by Bool tests: a test that says yes, and what follows for `&&`, `||`, `not` and `implies`. Assumes nothing.
 use mathlib.Core.Bool.{Bool, true, false, cond, _&&_, _||_, not, false≢true}
-use mathlib.Core.Path.{_≡_, refl}
+use mathlib.Core.Path.{_≡_, refl, sym}
 use Rattle.words.specs.Bools.{implies}
 
 -- The test says yes.
@@ -19,6 +19,10 @@ pub and-none : (b : Bool) → (b && false) ≡ false
 and-none true = refl
 and-none false = refl
 
+pub and-all : (b : Bool) → (b && true) ≡ b
+and-all true = refl
+and-all false = refl
+
 pub both : {a b : Bool} → Is a → Is b → Is (a && b)
 both {a = true} h k = k
 both {a = false} h k = h
@@ -30,6 +34,10 @@ or-l {a = false} b h = absurd (false≢true h)
 pub or-r : (a : Bool) {b : Bool} → Is b → Is (a || b)
 or-r true h = refl
 or-r false h = h
+
+pub neither : (a b : Bool) → (a || b) ≡ false → (a ≡ false) × (b ≡ false)
+neither true b e = absurd (false≢true (sym e))
+neither false b e = (refl, e)
 
 pub mp : {a b : Bool} → Is (implies a b) → Is a → Is b
 mp {a = true} h k = h

@@ -2,7 +2,7 @@
 use borrow.Author.Needs.{needs}
 use mathlib.Core.Path.{sym, _∙_}
 use native.Mathlib.Omega.{arith}
-use Rattle.moesi.proofs.Totals.{accepted-wide, told-few, record-misfit, record-full, record-counted}
+use Rattle.moesi.proofs.Totals.{accepted-wide, read-few, record-misfit, record-full, record-counted}
 use Rattle.moesi.proofs.moesi_step_totals.Statement.{statement}
 use Rattle.moesi.proofs.moesi_step_totals.Tie as tie
 
@@ -16,8 +16,8 @@ room c = c .before .before .before .before .before .before
 abbrev stepped : tie.After-counts-in → tie.After-moesi-step
 stepped c = c .before .before .before .before .before .before .before .before .before .before .before .before
 
-abbrev told : tie.After-kind-of → tie.After-counts-in
-told c = c .before .before
+abbrev counts : tie.After-kind-of → tie.After-counts-in
+counts c = c .before .before
 
 returns : tie.Need-returns
 returns c =
@@ -37,16 +37,16 @@ counts-in-requires c κs = λ z.
 
 count-requires : tie.Need-count-requires
 count-requires c κs =
-    let after-kind-of : tie.After-kind-of = search in let after-counts-in = told after-kind-of in let after-moesi-step = stepped after-counts-in in
+    let after-kind-of : tie.After-kind-of = search in let after-counts-in = counts after-kind-of in let after-moesi-step = stepped after-counts-in in
     let else-2 = room after-moesi-step in (
       (fitted else-2 .if1 .left, sym (else-2 .before .is-full .ensures) ∙ else-2 .if2 .left),
-      told-few _ _ _ _ (after-moesi-step .moesi-step .ensures) (after-kind-of .kind-of .ensures) (after-counts-in .counts-in .ensures),
+      read-few _ _ _ _ (after-moesi-step .moesi-step .ensures) (after-kind-of .kind-of .ensures) (after-counts-in .counts-in .ensures),
     )
 
 returns-3 : tie.Need-returns-3
 returns-3 c =
     let after-slice-known14 : tie.After-slice-known14 = search in let after-count : tie.After-count = search in
-    let after-kind-of = after-count .before in let after-counts-in = told after-kind-of in let after-moesi-step = stepped after-counts-in in
+    let after-kind-of = after-count .before in let after-counts-in = counts after-kind-of in let after-moesi-step = stepped after-counts-in in
     let else-2 = room after-moesi-step in
     record-counted _ _ _ _ _ (fitted else-2 .if1 .left) (sym (else-2 .before .is-full .ensures) ∙ else-2 .if2 .left) (after-kind-of .kind-of .ensures)
     (after-moesi-step .moesi-step .ensures) (after-counts-in .counts-in .ensures) (after-count .count .ensures) (after-count .count .kept .0)

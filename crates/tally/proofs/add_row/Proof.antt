@@ -33,7 +33,7 @@ add-total c =
     let start : tie.Start Inv-loop μ-loop = search in
     omega (
       arith,
-      sum-fits _ _ (at-loop .loop .inv) (start .pre .1) (in-loop .loop-test .taken) (after-total-at .total-at .ensures)
+      sum-fits _ _ (at-loop .loop .inv) (start .pre .1) (omega (arith, in-loop .loop-test .taken)) (after-total-at .total-at .ensures)
           (after-total-at2 .total-at2 .ensures),
     )
 
@@ -57,7 +57,7 @@ loop-again c =
     let after-total-at2 : tie.After-total-at2 Inv-loop μ-loop = search in let after-total-at : tie.After-total-at Inv-loop μ-loop = search in
     let in-loop : tie.In-loop Inv-loop μ-loop = search in let at-loop : tie.At-loop Inv-loop μ-loop = search in
     let start : tie.Start Inv-loop μ-loop = search in
-    adding-more _ _ (at-loop .loop .inv) (start .pre .1) (in-loop .loop-test .taken) (after-total-at .total-at .ensures)
+    adding-more _ _ (at-loop .loop .inv) (start .pre .1) (omega (arith, in-loop .loop-test .taken)) (after-total-at .total-at .ensures)
     (after-total-at2 .total-at2 .ensures) (after-write-eight .write-eight .ensures)
 
 same-length : tie.Need-same-length Inv-loop μ-loop

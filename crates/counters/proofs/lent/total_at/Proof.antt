@@ -1,5 +1,4 @@
 -- A number read at its place. Assumes nothing.
-use borrow.Author.Needs.{needs}
 use mathlib.Core.Path.{sym, _∙_}
 use native.Mathlib.Omega.{arith}
 use Rattle.endian.proofs.Little.{get-numbers}
