@@ -15,7 +15,7 @@ use Rattle.ports.specs.Entry.{wordIn}
 use Rattle.ports.specs.Line.{Placed}
 use Rattle.ports.specs.Masks.{portsFrom}
 use Rattle.ports.proofs.Bytes.{memory-word}
-use Rattle.ports.proofs.Masks.{first-port, found-none, found-first}
+use Rattle.ports.proofs.Masks.{first-of, found-none, found-first}
 use Rattle.ports.proofs.Places.{few, number-is, there, word-read}
 
 -- The word of a port's entry for the line.
@@ -34,7 +34,7 @@ module _ {l : Line} (v : Placed l) (b : Bytes) (fits : Fitting (l .shape) b) {ow
   module _ (some : owners ≡ 0 → ⊥) {p : ℕ} (lowest : p ≡ trailingZeros 64 owners) where
     -- The lowest owner is one of the ports.
     pub owner-below : p < l .shape .ports
-    owner-below = first-port _ _ mask (omega (arith, few v)) some lowest .below
+    owner-below = first-of _ 0 _ mask (omega (arith, few v)) some lowest .below
 
     pub supplied-owner : {w : ℕ} → w ≡ wordIn (b .words) (p * l .shape .sets + l .place .index)
         → w ≡ wordSupplied (l .shape) (modelIn (l .shape) b) (l .number)

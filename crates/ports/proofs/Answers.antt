@@ -38,9 +38,9 @@ use Rattle.ports.specs.Line.{Placed}
 use Rattle.ports.specs.Masks.{portsFrom, inMask, OfHolders}
 use Rattle.ports.specs.Bus.{commandOf, statesAnswered, wordsAnswered, AllStates, answered}
 use Rattle.ports.proofs.Bytes.{model-eq, refilled}
-use Rattle.ports.proofs.Places.{some, few, number-is}
+use Rattle.ports.proofs.Places.{some, few, number-is, index-is, room, Running, running-first, running-on, running-next, running-fits}
 use Rattle.ports.proofs.Puts.{put-id}
-use Rattle.ports.proofs.Masks.{First, mask-half, mask-drop, mask-some, mask-first}
+use Rattle.ports.proofs.Masks.{First, mask-half, mask-drop, mask-some, first-of}
 
 in-part : (a j : ℕ) (xs : List ℕ) → a + j < length xs → j < length (midOf a (length xs - a) xs)
 in-part a j xs h = rw (part-to-end, length-drop) (omega arith)
@@ -146,13 +146,15 @@ module _ (s : Shape) (pos : zero < s .sets) (t : Model) (a : ℕ) (asked : ℕ �
       rw e (model-eq refl refl (sym (put-id (entryOf s a) (entry-inj s pos a) (byteAnswered s t a asked Quiet) (s .ports) (t .states) quiet-byte))
       (sym (words-kept s pos t a asked Quiet w quiet-keeps)))
 
--- The ports of the mask, one after the other: rest has those from port p on.
-pub record Telling (l : Line) (bus w asked : ℕ) (g₀ h₀ d₀ g h d : List ℕ) (rest p : ℕ) : Type 0 where
+-- The ports of the mask, one after the other: the ports below `port` are passed, rest has those from it on, and k is the number of its entry.
+pub record Telling (l : Line) (bus w asked : ℕ) (g₀ h₀ d₀ g h d : List ℕ) (rest k : ℕ) : Type 0 where
+  pub port : ℕ
+  pub at : Running l port k
   pub filled : Filled (l .shape) g h d
-  pub now : tablesIn (l .shape) g h d ≡ answered (l .shape) (tablesIn (l .shape) g₀ h₀ d₀) (l .number) (inMask asked) (busAt bus) w p
+  pub now : tablesIn (l .shape) g h d ≡ answered (l .shape) (tablesIn (l .shape) g₀ h₀ d₀) (l .number) (inMask asked) (busAt bus) w port
   pub count : ℕ
-  pub all : p + count ≡ l .shape .ports
-  pub mask : rest ≡ portsFrom (inMask asked) p count
+  pub all : port + count ≡ l .shape .ports
+  pub mask : rest ≡ portsFrom (inMask asked) port count
 
 module _ {l : Line} (v : Placed l) {g₀ h₀ d₀ : List ℕ} (bus w asked : ℕ) (f₀ : Filled (l .shape) g₀ h₀ d₀)
     (fine : AllStates (l .shape) (l .number) h₀) (holders : OfHolders (l .shape) (tablesIn (l .shape) g₀ h₀ d₀) (l .number) asked) where
@@ -171,11 +173,22 @@ module _ {l : Line} (v : Placed l) {g₀ h₀ d₀ : List ℕ} (bus w asked : �
   abbrev after : ℕ → Model
   after p = answered s t₀ a (inMask asked) (busAt bus) w p
 
-  pub telling-none : Telling l bus w asked g₀ h₀ d₀ g₀ h₀ d₀ asked 0
+  pub telling-none : Telling l bus w asked g₀ h₀ d₀ g₀ h₀ d₀ asked (l .place .index)
   unfolding answered putBelow
-  telling-none = record { filled = f₀; now = refl; count = s .ports; all = omega arith; mask = holders .ports }
+  telling-none = record {
+    port = 0;
+    at = running-first v;
+    filled = f₀;
+    now = refl;
+    count = s .ports;
+    all = omega arith;
+    mask = holders .ports;
+  }
 
-  module _ {g h d : List ℕ} {rest p : ℕ} (u : Telling l bus w asked g₀ h₀ d₀ g h d rest p) where
+  module _ {g h d : List ℕ} {rest j : ℕ} (u : Telling l bus w asked g₀ h₀ d₀ g h d rest j) where
+    abbrev p : ℕ
+    p = u .port
+
     pub telling-done : rest ≡ 0 → tablesIn s g h d ≡ after (s .ports)
     telling-done z =
         u .now ∙ sym (skip s (some v) t₀ a (inMask asked) (busAt bus) w p (u .count)
@@ -184,20 +197,37 @@ module _ {l : Line} (v : Placed l) {g₀ h₀ d₀ : List ℕ} (bus w asked : �
 
     module _ (left : rest ≡ 0 → ⊥) {z : ℕ} (ez : z ≡ trailingZeros 64 rest) where
       first : First test p (u .count) z
-      first = rw (ez, u .mask) (mask-first test p (u .count) 64 (omega (arith, u .all, few v)) (omega (arith, left, u .mask)))
+      first = first-of test p (u .count) (u .mask) (omega (arith, u .all, few v)) left ez
 
       -- The next port of the mask.
-      pub next-below : p + z < s .ports
+      next-below : p + z < s .ports
       next-below = omega (arith, first .below, u .all)
 
-      abbrev k : ℕ
-      k = (p + z) * l .shape .sets + l .place .index
+      pub passed-few : z < 8
+      passed-few = omega (arith, next-below, few v)
 
-      at-k : k ≡ entryOf s a (p + z)
-      at-k = number-is v (p + z)
+      pub passed-fits : z * s .sets + j < 1024
+      passed-fits = omega (arith, running-fits v (running-on v z (u .at) refl) next-below)
 
       in-k : entryOf s a (p + z) < entries s
       in-k = entry-lt s (some v) a (p + z) next-below
+
+      -- Its number, and where its part of the tables starts.
+      module _ {x : ℕ} (ex : x ≡ z * s .sets + j) where
+        here : Running l (p + z) x
+        here = running-on v z (u .at) ex
+
+        pub part-starts : l .place .index ≤ x
+        part-starts = omega (arith, here .number, index-is v)
+
+        pub next-fits : x + s .sets < 1024
+        next-fits = running-fits v here next-below
+
+        at-k : x - l .place .index + l .place .index ≡ entryOf s a (p + z)
+        at-k = ap (λ (n : ℕ). n + l .place .index) (here .part) ∙ number-is v (p + z)
+
+        pub next-room : Room g h d (x - l .place .index + l .place .index)
+        next-room = rw at-k (room (u .filled) in-k)
 
       reached : tablesIn s g h d ≡ after (p + z)
       reached = u .now ∙ sym (skip s (some v) t₀ a (inMask asked) (busAt bus) w p z (first .lower))
@@ -221,13 +251,6 @@ module _ {l : Line} (v : Placed l) {g₀ h₀ d₀ : List ℕ} (bus w asked : �
       unfolding tablesIn
       state-there = seen-here s t₀ a (p + z) (seen-tag s t₀ a (p + z) held)
 
-      pub next-room : Room g h d k
-      next-room = rw at-k (record {
-        in-tags = omega (arith, in-k, u .filled .tags-fit);
-        in-states = omega (arith, in-k, u .filled .states-fit);
-        in-words = omega (arith, in-k, u .filled .words-fit);
-      })
-
       -- It answers.
       byte-is : nibbleAt (snoopRow bus) (getD h (entryOf s a (p + z)) 0 % 16) ≡ byteAnswered s t₀ a (inMask asked) (busAt bus) (p + z)
       unfolding byteAnswered
@@ -243,33 +266,39 @@ module _ {l : Line} (v : Placed l) {g₀ h₀ d₀ : List ℕ} (bus w asked : �
       words-put fits true = set-numbers 8 (entries s) (entryOf s a (p + z)) w d in-k (omega arith) (omega (arith, u .filled .words-fit))
       words-put fits false = sym (set-getD (numbers 8 (entries s) d) (entryOf s a (p + z)) 0)
 
-      now-answered : w < 2 ^ 64 → {g' h' d' : List ℕ} {c : Command} → c ≡ commandOf bus → g' ≡ g → h' ≡ statesAnswered c k h
-          → d' ≡ wordsAnswered c w k d
-          → tablesIn s g' h' d' ≡ after (suc (p + z))
-      unfolding tablesIn answered putBelow statesAnswered wordsAnswered commandOf
-      now-answered fits ec eg eh ed =
-          rw (eg, eh, ed, ec, at-k)
-          (model-eq refl (ap (λ (t : Model). t .tags) reached)
-          (ap (set h (entryOf s a (p + z))) byte-is ∙ ap (λ (t : Model). set (t .states) (entryOf s a (p + z))
-          (byteAnswered s t₀ a (inMask asked) (busAt bus) (p + z))) reached)
-          (words-put fits (updates (busAt bus)) ∙ ap (set (numbers 8 (entries s) d) (entryOf s a (p + z))) word-is
-          ∙ ap (λ (t : Model). set (t .words) (entryOf s a (p + z)) (wordAnswered s t₀ a (inMask asked) (busAt bus) w (p + z))) reached))
+      module _ {x : ℕ} (ex : x ≡ z * s .sets + j) where
+        abbrev k : ℕ
+        k = x - l .place .index + l .place .index
 
-      pub telling-more : w < 2 ^ 64 → {g' h' d' : List ℕ} → length g' ≡ length g → length h' ≡ length h → length d' ≡ length d
-          → {c : Command} → c ≡ commandOf bus
-          → (g' ≡ g) × ((h' ≡ statesAnswered c k h) × (d' ≡ wordsAnswered c w k d))
-          → Telling l bus w asked g₀ h₀ d₀ g' h' d' (rest / 2 ^ z / 2) (p + z + 1)
-      telling-more fits {g'} {h'} {d'} eg eh ed ec e =
-          let n : ℕ = u .count - z - 1 in
-          let m : rest / 2 ^ z ≡ portsFrom test (p + z) (suc n) = ap (λ (x : ℕ). x / 2 ^ z) (u .mask) ∙ mask-drop test p z (suc n)
-          (omega (arith, first .below)) refl in
-          record {
-            filled = refilled (u .filled) eg eh ed;
-            now = now-answered fits ec (e .0) (e .1 .0) (e .1 .1) ∙ ap after (sym (add-one (p + z)));
-            count = n;
-            all = omega (arith, u .all, first .below);
-            mask = ap (λ (x : ℕ). x / 2) m ∙ mask-half test (p + z) n ∙ ap (λ (x : ℕ). portsFrom test x n) (sym (add-one (p + z)));
-          }
+        now-answered : w < 2 ^ 64 → {g' h' d' : List ℕ} {c : Command} → c ≡ commandOf bus → g' ≡ g → h' ≡ statesAnswered c k h
+            → d' ≡ wordsAnswered c w k d
+            → tablesIn s g' h' d' ≡ after (suc (p + z))
+        unfolding tablesIn answered putBelow statesAnswered wordsAnswered commandOf
+        now-answered fits ec eg eh ed =
+            rw (eg, eh, ed, ec, at-k ex)
+            (model-eq refl (ap (λ (t : Model). t .tags) reached)
+            (ap (set h (entryOf s a (p + z))) byte-is ∙ ap (λ (t : Model). set (t .states) (entryOf s a (p + z))
+            (byteAnswered s t₀ a (inMask asked) (busAt bus) (p + z))) reached)
+            (words-put fits (updates (busAt bus)) ∙ ap (set (numbers 8 (entries s) d) (entryOf s a (p + z))) word-is
+            ∙ ap (λ (t : Model). set (t .words) (entryOf s a (p + z)) (wordAnswered s t₀ a (inMask asked) (busAt bus) w (p + z))) reached))
+
+        pub telling-more : w < 2 ^ 64 → {g' h' d' : List ℕ} → length g' ≡ length g → length h' ≡ length h → length d' ≡ length d
+            → {c : Command} → c ≡ commandOf bus
+            → (g' ≡ g) × ((h' ≡ statesAnswered c k h) × (d' ≡ wordsAnswered c w k d))
+            → Telling l bus w asked g₀ h₀ d₀ g' h' d' (rest / 2 ^ z / 2) (x + s .sets)
+        telling-more fits {g'} {h'} {d'} eg eh ed ec e =
+            let n : ℕ = u .count - z - 1 in
+            let m : rest / 2 ^ z ≡ portsFrom test (p + z) (suc n) = ap (λ (x : ℕ). x / 2 ^ z) (u .mask) ∙ mask-drop test p z (suc n)
+            (omega (arith, first .below)) refl in
+            record {
+              port = p + z + 1;
+              at = running-next v (here ex);
+              filled = refilled (u .filled) eg eh ed;
+              now = now-answered fits ec (e .0) (e .1 .0) (e .1 .1) ∙ ap after (sym (add-one (p + z)));
+              count = n;
+              all = omega (arith, u .all, first .below);
+              mask = ap (λ (x : ℕ). x / 2) m ∙ mask-half test (p + z) n ∙ ap (λ (x : ℕ). portsFrom test x n) (sym (add-one (p + z)));
+            }
 
   -- Nobody is asked: the mask is empty, or the bus is quiet.
   unpacked : AllStates s a (t₀ .states)

@@ -43,6 +43,12 @@ pub mask-half : (f : ℕ → Bool) (a n : ℕ) → portsFrom f a (suc n) / 2 ≡
 unfolding portsFrom
 mask-half f a n = rest (f a) (portsFrom f (suc a) n)
 
+-- One port more, b, at the end.
+pub mask-next : (f : ℕ → Bool) (a n : ℕ) {b : ℕ} → b ≡ a + n → portsFrom f a (suc n) ≡ portsFrom f a n + bit (f b) * 2 ^ n
+unfolding portsFrom
+mask-next f a zero {b} e = let x : b ≡ a = omega arith in rw (pow-zero 2, x) (omega arith)
+mask-next f a (suc n) {b} e = rw (mask-next f (suc a) n {b = b} (omega arith), pow-suc 2 n) (omega arith)
+
 -- The mask without its j lowest ports, and bit i.
 pub mask-drop : (f : ℕ → Bool) (a j n : ℕ) {m b : ℕ} → m ≡ j + n → b ≡ a + j → portsFrom f a m / 2 ^ j ≡ portsFrom f b n
 mask-drop f a zero n {m} {b} em eb =
@@ -116,6 +122,9 @@ mask-first f a (suc n) (suc d) l h =
     below-first {f} zero k t more = moved (λ x. not (f x)) (omega arith) t
     below-first {f} (suc r) k t more = moved (λ x. not (f x)) (omega arith) (more .lower r (omega arith))
 
+pub first-of : (f : ℕ → Bool) (a n : ℕ) {m : ℕ} → m ≡ portsFrom f a n → n ≤ 64 → (m ≡ 0 → ⊥) → {z : ℕ} → z ≡ trailingZeros 64 m → First f a n z
+first-of f a n em few h ez = rw (ez, em) (mask-first f a n 64 few (omega (arith, h, em)))
+
 -- It is the lowest of all.
 pub lowest-is : (f : ℕ → Bool) (n q : ℕ) → q < n → Is (f q) → ((r : ℕ) → r < q → Is (not (f r))) → lowest f n ≡ number q
 unfolding lowest orElse
@@ -169,9 +178,6 @@ of-holders s t a f hold {m} em = record {
 
 -- What the lowest port in a mask gives, or x where the mask is empty.
 module _ (f : ℕ → Bool) (n : ℕ) {m : ℕ} (em : m ≡ portsFrom f 0 n) where
-  pub first-port : n ≤ 64 → (m ≡ 0 → ⊥) → {z : ℕ} → z ≡ trailingZeros 64 m → First f 0 n z
-  first-port few h ez = rw (ez, em) (mask-first f 0 n 64 few (omega (arith, h, em)))
-
   pub found-none : (at : ℕ → ℕ) (x : ℕ) → m ≡ 0 → x ≡ atOr at x (lowest f n)
   unfolding atOr
   found-none at x z =
@@ -180,7 +186,7 @@ module _ (f : ℕ → Bool) (n : ℕ) {m : ℕ} (em : m ≡ portsFrom f 0 n) whe
   pub found-first : (at : ℕ → ℕ) (x : ℕ) → n ≤ 64 → (m ≡ 0 → ⊥) → {z : ℕ} → z ≡ trailingZeros 64 m → at z ≡ atOr at x (lowest f n)
   unfolding atOr
   found-first at x few h {z} ez =
-      let first = first-port few h ez in
+      let first = first-of f 0 n em few h ez in
       rw (lowest-is f n z (first .below) (moved f (omega arith) (first .passes)) (λ r k. moved (λ y. not (f y)) (omega arith) (first .lower r k)))
 
 -- The mask without port i, as the code takes its bit away.

@@ -1,10 +1,10 @@
 -- Where a line's entries lie, and an entry read or put in bytes. Assumes nothing.
-use Prim.Native.Nat.{ℕ, zero, _+_, _*_, _/_, _%_, _^_, _<_, _≤_}
+use Prim.Native.Nat.{ℕ, zero, _+_, _*_, _-_, _/_, _%_, _^_, _<_, _≤_}
 use mathlib.Core.Path.{_≡_, refl, sym, ap, _∙_}
 use mathlib.Core.Bool.{true}
 use mathlib.Core.List.{List}
 use native.Mathlib.Omega.{arith}
-use native.Mathlib.Nat.{mod-lt, div-add-mod', mul-le-mul}
+use native.Mathlib.Nat.{mod-lt, div-add-mod', mul-le-mul, add-mul, one-mul}
 use borrow.Author.Tests.{ltb-true, lt-ltb}
 use lib.ListN.{getD, set}
 use lib.Seq.{sets}
@@ -65,6 +65,42 @@ module _ {l : Line} (v : Placed l) where
 
     pub small : p < l .shape .ports → p * l .shape .sets + l .place .index < 512
     small q = omega (arith, there q, bounded (l .shape) (v .range) .entries-most)
+
+-- What n ports take of the tables, by one port less.
+pub one-port-less : {n : ℕ} → (n ≡ 0 → ⊥) → (sets : ℕ) → n * sets ≡ (n - 1) * sets + sets
+one-port-less {n} h sets =
+    let e : n ≡ n - 1 + 1 = omega (arith, h) in
+    ap (λ (x : ℕ). x * sets) e ∙ add-mul (n - 1) 1 sets ∙ ap (λ (x : ℕ). (n - 1) * sets + x) (one-mul sets)
+
+-- The number that runs beside a loop over the ports: at port p it is that of the port's entry for the line, and the port's part of the tables
+-- starts the index before it, at p * sets.
+pub record Running (l : Line) (p k : ℕ) : Type 0 where
+  pub number : k ≡ entryOf (l .shape) (l .number) p
+  pub part : k - l .place .index ≡ p * l .shape .sets
+
+module _ {l : Line} (v : Placed l) where
+  running : (p : ℕ) {k : ℕ} → k ≡ p * l .shape .sets + l .place .index → Running l p k
+  running p e = record { number = e ∙ number-is v p; part = omega (arith, e) }
+
+  at-entry : {p k : ℕ} → Running l p k → k ≡ p * l .shape .sets + l .place .index
+  at-entry {p} u = u .number ∙ sym (number-is v p)
+
+  -- The entry is there, and its number fits.
+  pub running-there : {p k : ℕ} → Running l p k → p < l .shape .ports → k < entries (l .shape)
+  running-there {p} u q = rw (at-entry u) (there v p q)
+
+  pub running-fits : {p k : ℕ} → Running l p k → p < l .shape .ports → k + l .shape .sets < 1024
+  running-fits {p} u q = omega (arith, at-entry u, small v p q, sets-small v .0)
+
+  -- From the index on, n ports on and one port on: sets more for each.
+  pub running-first : Running l 0 (l .place .index)
+  running-first = running 0 (omega arith)
+
+  pub running-on : (n : ℕ) {p k : ℕ} → Running l p k → {x : ℕ} → x ≡ n * l .shape .sets + k → Running l (p + n) x
+  running-on n {p} u e = running (p + n) (omega (arith, e, at-entry u, add-mul p n (l .shape .sets)))
+
+  pub running-next : {p k : ℕ} → Running l p k → Running l (p + 1) (k + l .shape .sets)
+  running-next u = running-on 1 u (omega arith)
 
 pub placed : (s : Shape) (a : ℕ) → inRange s ≡ true → a < s .lines → {l : Line} → l ≡ lineOf s a → Placed l
 unfolding lineOf

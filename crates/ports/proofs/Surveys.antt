@@ -4,11 +4,12 @@ use mathlib.Core.Path.{_≡_, refl, sym, ap, _∙_}
 use mathlib.Core.Bool.{Bool, true, false, cond, _&&_, _||_, not}
 use mathlib.Core.List.{List}
 use native.Mathlib.Omega.{arith}
-use native.Mathlib.Nat.{mod-lt}
+use native.Mathlib.Nat.{mod-lt, zero-add}
+use native.Mathlib.Numerals.{add-one}
 use lib.ListN.{getD}
 use lib.Dec.{eqb, ltb}
 use lib.Arith.{digits-div, digits-mod}
-use lib.Pow.{pow-mono}
+use lib.Pow.{pow-mono, shl-lt, shl-exact}
 use borrow.Author.Tests.{eqb-true, eqb-false, lt-ltb, le-ltb, ltb-true, ltb-false, ne-eqb, not-true, not-false}
 use Rattle.protocol.specs.declared.state.State.the-variants.{I}
 use Rattle.protocol.specs.State.{stateOf, stateRow, orInvalid, isState, valid, owner}
@@ -30,8 +31,8 @@ use Rattle.ports.specs.Bytes.{Bytes, modelIn, tablesIn}
 use Rattle.ports.specs.Line.{Placed}
 use Rattle.ports.specs.Masks.{portsFrom, lanes, saysOf, lookLanes, masksOf}
 use Rattle.ports.specs.Bus.{AllStates}
-use Rattle.ports.proofs.Places.{some, few, index-is, tag-is, limit-at}
-use Rattle.ports.proofs.Masks.{bit-le, bit-is, mask-lt, mask-bit, mask-any}
+use Rattle.ports.proofs.Places.{some, few, tag-is, limit-at, Running, running-first, running-next}
+use Rattle.ports.proofs.Masks.{bit-le, bit-is, mask-lt, mask-next, mask-bit, mask-any}
 
 -- The three rows, and what bit b of their lanes is.
 abbrev rowOf : Bool → Bool → ℕ
@@ -126,20 +127,20 @@ lane-two x y z h k = ap (λ (n : ℕ). n / 65536 % 65536) (split x y z) ∙ ap (
     split : (x y z : ℕ) → lanes x y z ≡ (z * 65536 + y) * 65536 + x
     split x y z = omega arith
 
--- The loop, from the last port down to port p: the lanes of the ports from p on.
+-- The loop, from port 0 on: the lanes of the first p ports, and the number of port p's entry.
 abbrev soundBy : Shape → Model → ℕ → ℕ → Bool
 soundBy s t a p = sound s t (entryOf s a p)
 
 abbrev unsound : Shape → Model → ℕ → ℕ → Bool
 unsound s t a p = not (sound s t (entryOf s a p))
 
-abbrev lanesFrom : Shape → Model → ℕ → ℕ → ℕ → ℕ
-lanesFrom s t a p n = lanes (portsFrom (holds s t a) p n) (portsFrom (owns s t a) p n) (portsFrom (unsound s t a) p n)
+abbrev lanesBelow : Shape → Model → ℕ → ℕ → ℕ
+lanesBelow s t a p = lanes (portsFrom (holds s t a) 0 p) (portsFrom (owns s t a) 0 p) (portsFrom (unsound s t a) 0 p)
 
-pub record Surveyed (s : Shape) (t : Model) (a sum p : ℕ) : Type 0 where
-  pub count : ℕ
-  pub all : p + count ≡ s .ports
-  pub now : sum ≡ lanesFrom s t a p count
+pub record Surveyed (l : Line) (t : Model) (sum p k : ℕ) : Type 0 where
+  pub at : Running l p k
+  pub most : p ≤ l .shape .ports
+  pub now : sum ≡ lanesBelow (l .shape) t (l .number) p
 
 module _ (l : Line) (v : Placed l) (g h d : List ℕ) where
   abbrev s : Shape
@@ -151,34 +152,25 @@ module _ (l : Line) (v : Placed l) (g h d : List ℕ) where
   abbrev t : Model
   t = tablesIn (l .shape) g h d
 
-  pub surveyed-none : Surveyed s t a 0 (s .ports)
+  pub surveyed-none : Surveyed l t 0 0 (l .place .index)
   unfolding portsFrom
-  surveyed-none = record { count = 0; all = omega arith; now = refl }
+  surveyed-none = record { at = running-first v; most = omega arith; now = refl }
 
-  lane-lt : (f : ℕ → Bool) (p n : ℕ) → p + n ≡ s .ports → portsFrom f p n < 256
-  lane-lt f p n e = omega (arith, mask-lt f p n, pow-mono {i = n} {j = 8} (omega (arith, few v)))
+  lane-lt : (f : ℕ → Bool) (p : ℕ) → p ≤ s .ports → portsFrom f 0 p < 256
+  lane-lt f p e = omega (arith, mask-lt f 0 p, pow-mono {i = p} {j = 8} (omega (arith, few v)))
 
   -- The sum fits its type.
-  pub surveyed-fits : {sum p : ℕ} → Surveyed s t a sum p → sum < 2199023255552
+  pub surveyed-fits : {sum p k : ℕ} → Surveyed l t sum p k → sum < 2199023255552
   surveyed-fits {sum} {p} u =
-      omega (
-        arith,
-        u .now,
-        lane-lt (holds s t a) p (u .count) (u .all),
-        lane-lt (owns s t a) p (u .count) (u .all),
-        lane-lt (unsound s t a) p
-            (u .count) (u .all),
-      )
+      omega (arith, u .now, lane-lt (holds s t a) p (u .most), lane-lt (owns s t a) p (u .most), lane-lt (unsound s t a) p (u .most))
 
-  abbrev at : ℕ → ℕ
-  at p = p * l .shape .sets + l .place .index
-
-  look-lanes : (p : ℕ) → lookLanes (l .place) (getD (numbers 4 (entries s) g) (at p) 0) (getD h (at p) 0) ≡ lanes (bit (holds s t a p))
-      (bit (owns s t a p)) (bit (unsound s t a p))
+  -- What port p says, a place further up for each port before it.
+  look-lanes : (p : ℕ) {k : ℕ} → k ≡ entryOf s a p
+      → lookLanes (l .place) (getD (numbers 4 (entries s) g) k 0) (getD h k 0) ≡ lanes (bit (holds s t a p)) (bit (owns s t a p)) (bit (unsound s t a p))
   unfolding lookLanes seen sound tablesIn
-  look-lanes p =
+  look-lanes p e =
       rw (
-        index-is v,
+        e,
         tag-is v,
         limit-at v,
         entry-index s (some v) a p,
@@ -186,12 +178,31 @@ module _ (l : Line) (v : Placed l) (g h d : List ℕ) where
             (indexOf s a) (s .lines) (mod-lt a (some v)),
       )
 
-  pub surveyed-more : {sum p q x y : ℕ} → Surveyed s t a sum p → q + 1 ≡ p
-      → x ≡ lookLanes (l .place) (getD (numbers 4 (entries s) g) (at q) 0) (getD h (at q) 0) → y ≡ 2 * sum + x → Surveyed s t a y q
-  unfolding portsFrom
-  surveyed-more {sum} {p} {q} {x} u ep ex ey =
-      let e : p ≡ suc q = omega arith in
-      record { count = suc (u .count); all = omega (arith, u .all); now = omega (arith, ey, ex, look-lanes q, rw e at u .now) }
+  module _ {sum p k x : ℕ} (u : Surveyed l t sum p k) (q : p < s .ports)
+      (ex : x ≡ lookLanes (l .place) (getD (numbers 4 (entries s) g) k 0) (getD h k 0)) where
+    placed-up : x * 2 ^ p % 2 ^ 64 ≡ x * 2 ^ p
+    placed-up = shl-exact {a = x} 33 p 64 (look-fits _ _ _ ex) (omega (arith, few v))
+
+    one-more : (f : ℕ → Bool) → portsFrom f 0 (p + 1) ≡ portsFrom f 0 p + bit (f p) * 2 ^ p
+    one-more f = ap (portsFrom f 0) (add-one p) ∙ mask-next f 0 p (sym (zero-add p))
+
+    pub surveyed-small : sum + x * 2 ^ p % 2 ^ 64 < 4398046511104
+    surveyed-small = omega (arith, surveyed-fits u, placed-up, shl-lt 33 p (look-fits _ _ _ ex), pow-mono {i = 33 + p} {j = 41} (omega (arith, few v)))
+
+    pub surveyed-more : Surveyed l t (sum + x * 2 ^ p % 2 ^ 64) (p + 1) (k + s .sets)
+    surveyed-more = record {
+      at = running-next v (u .at);
+      most = omega arith;
+      now = omega (
+        arith,
+        placed-up,
+        u .now,
+        ap (λ (y : ℕ). y * 2 ^ p) (ex ∙ look-lanes p (u .at .number)),
+        one-more (holds s t a),
+        one-more (owns s t a),
+        one-more (unsound s t a),
+      );
+    }
 
   -- All ports are passed: the lanes are the masks.
   not-all : (f : ℕ → Bool) (n : ℕ) → anyBelow (λ p. not (f p)) n ≡ not (allBelow f n)
@@ -203,15 +214,13 @@ module _ (l : Line) (v : Placed l) (g h d : List ℕ) where
       nand true b = refl
       nand false b = refl
 
-  pub surveyed-done : {sum p : ℕ} → Surveyed s t a sum p → p ≤ 0
+  pub surveyed-done : {sum p k : ℕ} → Surveyed l t sum p k → s .ports ≤ p
       → _≡_ {A = Masks} (record { sound = ltb sum 4294967296; holders = sum % 65536; owners = sum / 65536 % 65536 }) (masksOf s t a)
   unfolding masksOf columnSound
   surveyed-done {sum} {p} u z =
-      let n : u .count ≡ s .ports = omega (arith, u .all) in
-      let e : p ≡ 0 = omega arith in
-      let now : sum ≡ lanesFrom s t a 0 (s .ports) = u .now ∙ ap (λ (x : ℕ). lanesFrom s t a x (u .count)) e ∙ ap (lanesFrom s t a 0) n in
-      let la = lane-lt (holds s t a) 0 (s .ports) (omega arith) in
-      let lb = lane-lt (owns s t a) 0 (s .ports) (omega arith) in
+      let now : sum ≡ lanesBelow s t a (s .ports) = u .now ∙ ap (lanesBelow s t a) (omega (arith, u .most)) in
+      let la = lane-lt (holds s t a) (s .ports) (omega arith) in
+      let lb = lane-lt (owns s t a) (s .ports) (omega arith) in
       let holders : sum % 65536 ≡ portsFrom (holds s t a) 0 (s .ports) = rw now
       (lane-one _ (portsFrom (owns s t a) 0 (s .ports)) (portsFrom (unsound s t a) 0 (s .ports)) (omega (arith, la))) in
       let owners : sum / 65536 % 65536 ≡ portsFrom (owns s t a) 0 (s .ports) = rw now

@@ -4,7 +4,7 @@ use crate::line::Line;
 use crate::mask;
 use protocol::rules;
 ghost use mathlib.Core.Path.{_≡_};
-ghost use Prim.Native.Nat.{_+_, _<_};
+ghost use Prim.Native.Nat.{_+_, _*_, _^_, _<_};
 ghost use Rattle.protocol.specs.Coded.{busAt};
 ghost use Rattle.ports.specs.Bytes.{tablesIn, Filled};
 ghost use Rattle.ports.specs.Entry.{Room};
@@ -70,7 +70,22 @@ fn answer_from(
     );
 }
 
-// Every port of the mask answers command number bus.
+// The number of an entry, that many ports on: sets more for each port that is passed over.
+fn passed(k: usize, sets: usize, ports: usize) -> usize
+    requires { ⌜ ports * sets + k < 2 ^ 64 ⌝ }
+    ensures { λ r. ⌜ r ≡ ports * sets + k ⌝ }
+{
+    let mut at = k;
+    let mut left = ports;
+    while left != 0 {
+        at += sets;
+        left -= 1;
+    }
+    at
+}
+
+// Every port of the mask answers command number bus. The number of the port's entry runs from the index on: sets more for each port, asked or
+// passed over.
 fn broadcast(
     tags: &mut [u8],
     states: &mut [u8],
@@ -92,13 +107,14 @@ fn broadcast(
     let c = command_of(bus);
     let sets = line.shape.sets;
     let mut rest = asked;
-    let mut p = 0usize;
+    let mut k = line.place.index;
     while rest != 0 {
         let skipped = mask::lowest_port(rest);
-        let q = p + skipped;
-        answer_from(tags, states, words, q * sets, line.place.index, c, w);
         rest = (rest >> skipped) / 2;
-        p = q + 1;
+        k = passed(k, sets, skipped);
+        let from = k - line.place.index;
+        answer_from(tags, states, words, from, line.place.index, c, w);
+        k += sets;
     }
 }
 

@@ -50,7 +50,8 @@ fn entry_lanes(tags: &[u8], states: &[u8], words: &[u8], line: Line, k: usize) -
     lanes_at(line.place, entry::tag_at(tags, k), states[k])
 }
 
-// Asks every port, in one pass, the last one first. No word is read: the words are lent so that what is said is said of the whole tables.
+// Asks every port, in one pass. The number of the port's entry runs beside the port, from the index on: sets more for each port. No word is
+// read: the words are lent so that what is said is said of the whole tables.
 fn survey_ports(tags: &[u8], states: &[u8], words: &[u8], line: Line) -> Masks
     requires { ⌜ Filled (line .shape) (now tags) (now states) (now words) ⌝ }
     requires { ⌜ Placed line ⌝ }
@@ -58,14 +59,15 @@ fn survey_ports(tags: &[u8], states: &[u8], words: &[u8], line: Line) -> Masks
         (line .number) ⌝ }
 {
     let sets = line.shape.sets;
-    let index = line.place.index;
+    let ports = line.shape.ports;
     let mut sum = 0u64;
-    let mut p = line.shape.ports;
-    while 0 < p {
-        p -= 1;
-        let k = p * sets + index;
+    let mut k = line.place.index;
+    let mut p = 0usize;
+    while p < ports {
         let seen = entry_lanes(tags, states, words, line, k);
-        sum = 2 * sum + seen;
+        sum += seen << p;
+        k += sets;
+        p += 1;
     }
     Masks {
         sound: sum < 4294967296,

@@ -1,61 +1,57 @@
--- The loop keeps the lanes of the ports passed, from the last one down. Assumes nothing.
+-- The loop keeps the lanes of the ports passed, from port 0 on, and the number of the next port's entry. Assumes nothing.
 use Prim.Native.Nat.{_-_}
-use mathlib.Core.Path.{refl}
 use native.Mathlib.Omega.{arith}
 use Rattle.ports.specs.Bytes.{tablesIn}
-use Rattle.ports.proofs.Places.{there, small}
-use Rattle.ports.proofs.Surveys.{Surveyed, surveyed-none, surveyed-more, surveyed-fits, surveyed-done, look-fits}
+use Rattle.ports.proofs.Places.{few, running-there, running-fits}
+use Rattle.ports.proofs.Surveys.{Surveyed, surveyed-none, surveyed-more, surveyed-small, surveyed-done}
 use Rattle.ports.proofs.survey.survey_ports.Statement.{statement}
 use Rattle.ports.proofs.survey.survey_ports.Tie as tie
 
 abbrev Inv-loop : tie.InvT-loop
-Inv-loop tags states words line sets index sum₀ p₀ sum p = Surveyed (line .shape) (tablesIn (line .shape) tags states words) (line .number) sum p
+Inv-loop tags states words line sets ports sum₀ k₀ p₀ sum k p = Surveyed line (tablesIn (line .shape) tags states words) sum p k
 
 abbrev μ-loop : tie.MeasureT-loop
-μ-loop tags states words line sets index sum₀ p₀ sum p = p
+μ-loop tags states words line sets ports sum₀ k₀ p₀ sum k p = ports - p
 
 loop-holds : tie.Need-loop-holds Inv-loop μ-loop
 loop-holds c = search surveyed-none
 
-sub-p : tie.Need-sub-p Inv-loop μ-loop
-sub-p c = omega (arith, c .loop-test .taken)
-
-mul-k : tie.Need-mul-k Inv-loop μ-loop
-mul-k c =
-    let start : tie.Start Inv-loop μ-loop = search in
-    omega (arith, small (start .pre .1) (c .before .loop .p - 1) (omega (arith, c .loop-test .taken, c .before .loop .inv .all)))
-
-add-k : tie.Need-add-k Inv-loop μ-loop
-add-k c =
-    let start : tie.Start Inv-loop μ-loop = search in
-    omega (arith, small (start .pre .1) (c .before .loop .p - 1) (omega (arith, c .loop-test .taken, c .before .loop .inv .all)))
+-- The start, and the loop's head, seen from a turn.
+abbrev start : tie.In-loop Inv-loop μ-loop → tie.Start Inv-loop μ-loop
+start c = search
 
 entry-lanes-requires : tie.Need-entry-lanes-requires Inv-loop μ-loop
 entry-lanes-requires c κs =
-    let start : tie.Start Inv-loop μ-loop = search in
-    (start .pre .0, (start .pre .1, there (start .pre .1) (c .before .loop .p - 1) (omega (arith, c .loop-test .taken, c .before .loop .inv .all))))
+    let u = c .before .loop .inv in
+    (start c .pre .0, (start c .pre .1, running-there (start c .pre .1) (u .at) (c .loop-test .taken)))
 
-mul-sum : tie.Need-mul-sum Inv-loop μ-loop
-mul-sum c =
-    let at-loop : tie.At-loop Inv-loop μ-loop = search in let start : tie.Start Inv-loop μ-loop = search in
-    omega (arith, surveyed-fits _ (start .pre .1) _ _ _ (at-loop .loop .inv))
+shl-sum : tie.Need-shl-sum Inv-loop μ-loop
+shl-sum c = let turn : tie.In-loop Inv-loop μ-loop = search in omega (arith, turn .loop-test .taken, few (start turn .pre .1))
 
 add-sum : tie.Need-add-sum Inv-loop μ-loop
 add-sum c =
-    let at-loop : tie.At-loop Inv-loop μ-loop = search in let start : tie.Start Inv-loop μ-loop = search in
-    omega (arith, surveyed-fits _ (start .pre .1) _ _ _ (at-loop .loop .inv), look-fits _ _ _ (c .entry-lanes .ensures))
+    let turn : tie.In-loop Inv-loop μ-loop = search in let said : tie.After-entry-lanes Inv-loop μ-loop = search in
+    omega (arith, surveyed-small _ (start turn .pre .1) _ _ _ (turn .before .loop .inv) (turn .loop-test .taken) (said .entry-lanes .ensures))
+
+add-k : tie.Need-add-k Inv-loop μ-loop
+add-k c =
+    let turn : tie.In-loop Inv-loop μ-loop = search in
+    omega (arith, running-fits (start turn .pre .1) (turn .before .loop .inv .at) (turn .loop-test .taken))
+
+add-p : tie.Need-add-p Inv-loop μ-loop
+add-p c = let turn : tie.In-loop Inv-loop μ-loop = search in omega (arith, turn .loop-test .taken, few (start turn .pre .1))
 
 loop-less : tie.Need-loop-less Inv-loop μ-loop
-loop-less c = omega (arith, c .before .loop-test .taken)
+loop-less c = let turn : tie.In-loop Inv-loop μ-loop = search in omega (arith, turn .loop-test .taken)
 
 loop-again : tie.Need-loop-again Inv-loop μ-loop
 loop-again c =
-    let at-loop : tie.At-loop Inv-loop μ-loop = search in let start : tie.Start Inv-loop μ-loop = search in
-    surveyed-more _ (start .pre .1) _ _ _ (at-loop .loop .inv) (omega (arith, c .before .loop-test .taken)) (c .entry-lanes .ensures) refl
+    let turn : tie.In-loop Inv-loop μ-loop = search in let said : tie.After-entry-lanes Inv-loop μ-loop = search in
+    surveyed-more _ (start turn .pre .1) _ _ _ (turn .before .loop .inv) (turn .loop-test .taken) (said .entry-lanes .ensures)
 
 returns : tie.Need-returns Inv-loop μ-loop
 returns c = search surveyed-done
 
 pub survey-ports-spec : {M : Type 1} → statement M
 survey-ports-spec =
-    tie.close (tie.spec Inv-loop μ-loop loop-holds sub-p mul-k add-k entry-lanes-requires mul-sum add-sum loop-less loop-again returns)
+    tie.close (tie.spec Inv-loop μ-loop loop-holds entry-lanes-requires shl-sum add-sum add-k add-p loop-less loop-again returns)
