@@ -1,12 +1,13 @@
 -- What a shape in range bounds, and the limit of tags at an index. Assumes nothing.
 use Prim.Native.Nat.{ℕ, zero, suc, _+_, _*_, _-_, _/_, _%_, _^_, _<_, _≤_}
-use mathlib.Core.Path.{_≡_, refl, sym, _∙_}
+use mathlib.Core.Path.{_≡_, refl, sym, _∙_, subst}
 use mathlib.Core.Bool.{Bool, true, false, _&&_, _||_}
 use mathlib.Core.Logic.{_≢_, _↔_}
 use native.Mathlib.Omega.{arith}
 use native.Mathlib.Nat.{mul-le-mul, div-le-self, div-lt-iff-lt-mul, div-add-mod'}
 use native.Mathlib.Decide.{decLt}
 use lib.Dec.{eqb, leb, ltb}
+use lib.Bits.{bitAnd, and-mask}
 use borrow.Author.Tests.{ne-eqb, eqb-true, leb-true, lt-ltb, le-ltb}
 use Rattle.words.proofs.Bools.{Is, and-l, and-r}
 use Rattle.model.specs.declared.shape.Shape.{Shape}
@@ -39,6 +40,7 @@ sets-last n h a b c d e f = eqb-true n 64 (rw (ne-eqb n 1 a, ne-eqb n 2 b, ne-eq
 
 pub record Bounded (s : Shape) : Type 0 where
   pub ports : s .ports ≤ 8
+  pub some-ports : 1 ≤ s .ports
   pub lines : s .lines ≤ 4096
   pub some-lines : 1 ≤ s .lines
   pub sets : Is (isSets (s .sets))
@@ -53,9 +55,11 @@ bounded s h =
     let r = within 1 4096 (s .lines) in
     let sets : Is q = and-r p q (and-l (p && q) r h) in
     let most : s .sets ≤ 64 = sets-le (s .sets) sets in
-    let ports : s .ports ≤ 8 = leb-true _ _ (and-r (leb 1 (s .ports)) _ (and-l p q (and-l (p && q) r h))) in
+    let few : Is p = and-l p q (and-l (p && q) r h) in
+    let ports : s .ports ≤ 8 = leb-true _ _ (and-r (leb 1 (s .ports)) _ few) in
     record {
       ports = ports;
+      some-ports = leb-true _ _ (and-l _ (leb (s .ports) 8) few);
       lines = leb-true _ _ (and-r (leb 1 (s .lines)) _ (and-r (p && q) r h));
       some-lines = leb-true _ _ (and-l _ (leb (s .lines) 4096) (and-r (p && q) r h));
       sets = sets;
@@ -99,10 +103,6 @@ limit-is t n i x h =
           let e : x ≤ t * n + i = limit-more t n i x h .0 (div-lt-iff-lt-mul pos .0 d) in absurd (omega (arith, e, l)))
     ]
 
--- A number by a shift of k, and what is left, where 2 ^ k is n.
-module _ (a n k : ℕ) (e : 2 ^ k ≡ n) where
-  pub shifted-most : a / 2 ^ k * n ≤ a
-  shifted-most = rw e (omega (arith, div-add-mod' a n))
-
-  pub shifted-left : a - a / 2 ^ k * n ≡ a % n
-  shifted-left = rw e (omega (arith, div-add-mod' a n))
+-- The bits of a number below n, where n is 2 ^ k.
+pub bits-below : (a n k : ℕ) → 2 ^ k ≡ n → bitAnd a (n - 1) ≡ a % n
+bits-below a n k e = subst (λ (m : ℕ). bitAnd a (m - 1) ≡ a % m) e (and-mask a k)

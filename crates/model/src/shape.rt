@@ -108,20 +108,18 @@ impl Shape {
         }
     }
 
-    // By shifts: no division on the way of a step.
+    // By a shift and the bits below the sets' own: no division and no product on the way of a step.
     fn split(self, a: usize) -> Split
         requires { ⌜ (inRange self ≡ true) × (a < self .lines) ⌝ }
         ensures { λ r. ⌜ ((r .index ≡ a % self .sets) × (r .tag ≡ a / self .sets)) × (r .limit ≡ (self .lines + (self .sets - 1) - a % self .sets) / self .sets) ⌝ }
     {
-        let n = self.sets;
-        let lines = self.lines;
         let k = self.shift();
-        let tag = a >> k;
-        let index = a - tag * n;
+        let most = self.sets - 1;
+        let index = a & most;
         Split {
             index,
-            tag,
-            limit: (lines + (n - 1) - index) >> k,
+            tag: a >> k,
+            limit: (self.lines + most - index) >> k,
         }
     }
 

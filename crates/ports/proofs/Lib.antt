@@ -3,5 +3,6 @@ pub mod Bytes
 pub mod Places
 pub mod Puts
 pub mod Masks
+pub mod Turns
 pub mod Surveys
 pub mod Answers

@@ -1,12 +1,13 @@
 -- Laws of masks of ports: bits, the empty mask, the lowest port in one, one without a port. Assumes nothing.
-use Prim.Native.Nat.{ℕ, zero, suc, _+_, _*_, _-_, _/_, _%_, _^_, _<_, _≤_}
+use Prim.Native.Nat.{ℕ, zero, suc, _+_, _*_, _-_, _/_, _%_, _^_, _<_, _≤_, min}
 use mathlib.Core.Path.{_≡_, refl, sym, ap, _∙_, subst}
-use mathlib.Core.Bool.{Bool, true, false, _&&_, not}
+use mathlib.Core.Bool.{Bool, true, false, _&&_, not, false≢true}
 use native.Mathlib.Omega.{arith}
 use native.Mathlib.Nat.{pow-zero, pow-suc, zero-add, add-zero, div-one}
 use native.Mathlib.Decide.{ℕ-discrete}
 use lib.Dec.{eqb}
 use lib.Pow.{shr-shr, shl-exact}
+use lib.Bits.{bitAnd, and-step}
 use lib.Count.{trailingZeros}
 use borrow.Author.Tests.{eq-eqb, ne-eqb, not-true}
 use Rattle.words.specs.Bools.{bit}
@@ -17,18 +18,22 @@ use Rattle.model.specs.declared.shape.Shape.{Shape}
 use Rattle.model.specs.Tables.{Model, holds}
 use Rattle.ports.specs.Masks.{portsFrom, inMask, OfHolders}
 
--- The lowest bit, and the rest.
-low : (b : Bool) (x : ℕ) → (bit b + 2 * x) % 2 ≡ bit b
-low true x = omega arith
-low false x = omega arith
+-- The lowest digit, and the rest.
+pub lower : (m x : ℕ) → m ≤ 1 → (m + 2 * x) % 2 ≡ m
+lower m x h = omega arith
 
-rest : (b : Bool) (x : ℕ) → (bit b + 2 * x) / 2 ≡ x
-rest true x = omega arith
-rest false x = omega arith
+pub upper : (m x : ℕ) → m ≤ 1 → (m + 2 * x) / 2 ≡ x
+upper m x h = omega arith
 
 pub bit-le : (b : Bool) → bit b ≤ 1
 bit-le true = omega arith
 bit-le false = omega arith
+
+low : (b : Bool) (x : ℕ) → (bit b + 2 * x) % 2 ≡ bit b
+low b x = lower (bit b) x (bit-le b)
+
+rest : (b : Bool) (x : ℕ) → (bit b + 2 * x) / 2 ≡ x
+rest b x = upper (bit b) x (bit-le b)
 
 pub bit-is : (b : Bool) → eqb (bit b) 1 ≡ b
 bit-is true = refl
@@ -163,6 +168,37 @@ mask-without f a (suc n) zero i e l =
 mask-without f a (suc n) (suc j) i e l =
     let d = ne-eqb a i (λ y. absurd (omega arith)) in
     rw (mask-without f (suc a) n j i (omega arith) (omega arith), d, pow-suc 2 j) (omega arith)
+
+-- Two masks, one within a third and one outside it: the third finds the first in their sum.
+pub mask-within : (f g h : ℕ → Bool) → ((p : ℕ) → Is (f p) → Is (h p)) → ((p : ℕ) → Is (g p) → Is (not (h p))) → (a n : ℕ)
+    → bitAnd (portsFrom f a n + portsFrom g a n) (portsFrom h a n) ≡ portsFrom f a n
+unfolding portsFrom
+mask-within f g h inside outside a zero = refl
+mask-within f g h inside outside a (suc n) =
+    let m : ℕ = bit (f a) + bit (g a) in
+    let x : ℕ = portsFrom f (suc a) n + portsFrom g (suc a) n in
+    let y : ℕ = portsFrom h (suc a) n in
+    let digit = digit-within (f a) (g a) (h a) (inside a) (outside a) in
+    let whole : bit (f a) + 2 * portsFrom f (suc a) n + (bit (g a) + 2 * portsFrom g (suc a) n) ≡ m + 2 * x = omega arith in
+    rw (
+      whole,
+      and-step (m + 2 * x) (bit (h a) + 2 * y),
+      upper m x (digit .0),
+      lower m x (digit .0),
+      rest (h a) y,
+      low (h a) y,
+      digit .1,
+      mask-within f g h inside outside (suc a) n,
+    ) (omega arith)
+  where
+    digit-within : (b c d : Bool) → (Is b → Is d) → (Is c → Is (not d)) → (bit b + bit c ≤ 1) × (min (bit b + bit c) (bit d) ≡ bit b)
+    digit-within true c false i o = absurd (false≢true (i refl))
+    digit-within true true true i o = absurd (false≢true (o refl))
+    digit-within true false true i o = (omega arith, refl)
+    digit-within false true true i o = absurd (false≢true (o refl))
+    digit-within false true false i o = (omega arith, refl)
+    digit-within false false true i o = (omega arith, refl)
+    digit-within false false false i o = (omega arith, refl)
 
 -- A mask of the ports that pass a test has those, and no bit beside theirs.
 pub in-mask : (f : ℕ → Bool) (n : ℕ) {m : ℕ} → m ≡ portsFrom f 0 n → (p : ℕ) → p < n → inMask m p ≡ f p

@@ -30,6 +30,9 @@ module _ {l : Line} (v : Placed l) where
   pub few : l .shape .ports ≤ 8
   few = bounded (l .shape) (v .range) .ports
 
+  pub ports-some : 1 ≤ l .shape .ports
+  ports-some = bounded (l .shape) (v .range) .some-ports
+
   pub index-is : l .place .index ≡ indexOf (l .shape) (l .number)
   unfolding placeOf
   index-is = ap (λ (x : Place). x .index) (v .place)

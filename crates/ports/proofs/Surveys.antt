@@ -1,30 +1,33 @@
 -- The survey in lanes: what an entry says, from a row by its tag and a bit by its byte; and one port more at a time. Assumes nothing.
-use Prim.Native.Nat.{ℕ, zero, suc, _+_, _*_, _/_, _%_, _^_, _<_, _≤_}
+use Prim.Native.Nat.{ℕ, zero, suc, _+_, _*_, _-_, _/_, _%_, _^_, _<_, _≤_}
 use mathlib.Core.Path.{_≡_, refl, sym, ap, _∙_}
-use mathlib.Core.Bool.{Bool, true, false, cond, _&&_, _||_, not}
+use mathlib.Core.Bool.{Bool, true, false, cond, _&&_, _||_, not, false≢true}
 use mathlib.Core.List.{List}
 use native.Mathlib.Omega.{arith}
-use native.Mathlib.Nat.{mod-lt, zero-add}
+use native.Mathlib.Nat.{mod-lt, zero-add, add-mul, div-add-mod'}
 use native.Mathlib.Numerals.{add-one}
 use lib.ListN.{getD}
 use lib.Dec.{eqb, ltb}
 use lib.Arith.{digits-div, digits-mod}
-use lib.Pow.{pow-mono, shl-lt, shl-exact}
-use borrow.Author.Tests.{eqb-true, eqb-false, lt-ltb, le-ltb, ltb-true, ltb-false, ne-eqb, not-true, not-false}
+use lib.Bits.{bitAnd}
+use lib.Pow.{pow-mono}
+use borrow.Author.Tests.{eqb-true, eqb-false, eq-eqb, lt-ltb, le-ltb, ltb-true, ltb-false, ne-eqb, not-true, not-false}
 use Rattle.protocol.specs.declared.state.State.the-variants.{I}
+use Rattle.protocol.specs.declared.state.Byte.{Byte}
+use Rattle.protocol.specs.declared.state.Byte.the-variants.{Of, No}
 use Rattle.protocol.specs.State.{stateOf, stateRow, orInvalid, isState, valid, owner}
-use Rattle.protocol.proofs.States.{state-row-is}
+use Rattle.protocol.proofs.States.{state-row-is, owner-valid}
 use Rattle.words.specs.Bools.{bit}
-use Rattle.words.proofs.Bools.{Is, and-l, by-bool}
+use Rattle.words.proofs.Bools.{Is, and-l, both, or-r, by-bool, not-is, not-both}
 use Rattle.model.specs.Below.{allBelow, anyBelow}
 use Rattle.model.proofs.Below.{below-all}
 use Rattle.endian.specs.Little.{numbers}
 use Rattle.model.specs.declared.shape.Shape.{Shape}
 use Rattle.model.specs.declared.shape.Place.{Place}
 use Rattle.model.specs.Shape.{entries, indexOf, entryOf}
-use Rattle.model.specs.Tables.{Model, sound, seen, holds, owns, dirty, columnSound}
+use Rattle.model.specs.Tables.{Model, homeAt, sound, seen, holds, owns, dirty, columnSound}
 use Rattle.model.proofs.Bounds.{limit-is}
-use Rattle.model.proofs.Entries.{entry-index}
+use Rattle.model.proofs.Entries.{entry-index, seen-tag, seen-here}
 use Rattle.ports.specs.declared.line.Line.{Line}
 use Rattle.ports.specs.declared.survey.Masks.{Masks}
 use Rattle.ports.specs.Bytes.{Bytes, modelIn, tablesIn}
@@ -32,17 +35,22 @@ use Rattle.ports.specs.Line.{Placed}
 use Rattle.ports.specs.Masks.{portsFrom, lanes, saysOf, lookLanes, masksOf}
 use Rattle.ports.specs.Bus.{AllStates}
 use Rattle.ports.proofs.Places.{some, few, tag-is, limit-at, Running, running-first, running-next}
-use Rattle.ports.proofs.Masks.{bit-le, bit-is, mask-lt, mask-next, mask-bit, mask-any}
+use Rattle.ports.proofs.Masks.{bit-le, bit-is, mask-lt, mask-next, mask-bit, mask-any, mask-within}
+use Rattle.ports.proofs.Turns.{turnedBy, turned-room, turned-once, turned-back}
+
+-- What an entry says in two lanes: the third is laid over the second.
+abbrev folded : ℕ → ℕ
+folded n = n % 4294967296 + n / 4294967296 * 65536
 
 -- The three rows, and what bit b of their lanes is.
 abbrev rowOf : Bool → Bool → ℕ
-rowOf here near = cond here 0xE1F818001E06 (cond near 0xE1F800000000 0xFFFE00000000)
+rowOf here near = cond here 0xF9F81E06 (cond near 0xE1F80000 0xFFFE0000)
 
 abbrev lanesOf : ℕ → ℕ
-lanesOf x = x % 2 + x / 65536 % 2 * 65536 + x / 4294967296 % 2 * 4294967296
+lanesOf x = x % 2 + x / 65536 % 2 * 65536
 
 abbrev rightRow : Bool → Bool → ℕ → Bool
-rightRow here near b = eqb (lanesOf (rowOf here near / 2 ^ b)) (saysOf here near b)
+rightRow here near b = eqb (lanesOf (rowOf here near / 2 ^ b)) (folded (saysOf here near b))
 
 row-here : Is (allBelow (rightRow true true) 16)
 unfolding allBelow stateOf
@@ -80,13 +88,14 @@ clamped b =
 in-row : (b : ℕ) → cond (ltb b 16) b 15 < 16
 in-row b = by-bool (ltb b 16) (λ h. rw h (ltb-true b 16 h)) (λ h. rw (not-true (ltb b 16) h) (omega arith))
 
-right-row : (here near : Bool) → Is (allBelow (rightRow here near) 16) → (b : ℕ) → b < 16 → lanesOf (rowOf here near / 2 ^ b) ≡ saysOf here near b
+right-row : (here near : Bool) → Is (allBelow (rightRow here near) 16) → (b : ℕ) → b < 16 → lanesOf (rowOf here near / 2 ^ b) ≡ folded (saysOf here near b)
 right-row here near h b l = eqb-true _ _ (below-all (rightRow here near) 16 h b l)
 
 -- What an entry says, as the code finds it.
-pub lanes-are : (x : Place) (t b : ℕ) → x .tag < x .limit → {here away row n : ℕ} → here ≡ stateRow
-    → away ≡ cond (ltb t (x .limit)) (here / 4294967296 * 4294967296) (here / 4294967296 * 4294967296 + here % 65536 * 4294967296)
-    → row ≡ cond (eqb t (x .tag)) here away → n ≡ cond (ltb b 16) b 15 → lanesOf (row / 2 ^ n) ≡ lookLanes x t b
+pub lanes-are : (x : Place) (t b : ℕ) → x .tag < x .limit → {own away row n : ℕ} → own ≡ stateRow
+    → away ≡ cond (ltb t (x .limit)) (own / 4294967296 * 65536) (own / 4294967296 * 65536 + own % 65536 * 65536)
+    → row ≡ cond (eqb t (x .tag)) (own / 4294967296 * 65536 + own % 4294967296) away → n ≡ cond (ltb b 16) b 15
+    → lanesOf (row / 2 ^ n) ≡ folded (lookLanes x t b)
 unfolding lookLanes
 lanes-are x t b there eh ea er en =
     let k : ℕ = cond (ltb b 16) b 15 in
@@ -105,42 +114,31 @@ row-fits e = e ∙ state-row-is
 pub shift-below : (b : ℕ) {n : ℕ} → n ≡ cond (ltb b 16) b 15 → n < 16
 shift-below b e = rw e (in-row b)
 
-pub look-fits : (x : Place) (t b : ℕ) {n : ℕ} → n ≡ lookLanes x t b → n < 8589934592
-unfolding lookLanes
-look-fits x t b e = fits (eqb t (x .tag)) (ltb t (x .limit)) e
+-- Three lanes laid in two.
+folded-is : (x y z : ℕ) → x < 65536 → y < 65536 → folded (lanes x y z) ≡ x + (y + z) * 65536
+folded-is x y z h k =
+    let split : lanes x y z ≡ z * 4294967296 + (y * 65536 + x) = omega arith in
+    let fits : y * 65536 + x < 4294967296 = omega arith in
+    rw split (ap (λ (n : ℕ). n + (z * 4294967296 + (y * 65536 + x)) / 4294967296 * 65536) (digits-mod z fits)
+    ∙ ap (λ (n : ℕ). y * 65536 + x + n * 65536) (digits-div z fits) ∙ summed x y z)
   where
-    fits : (here near : Bool) {n : ℕ} → n ≡ saysOf here near b → n < 8589934592
-    fits here near e =
-        let seen = cond here (orInvalid (stateOf b)) I in
-        omega (arith, e, bit-le (valid seen), bit-le (owner seen), bit-le (not (isState (stateOf b) && (not (valid (orInvalid (stateOf b))) || near))))
+    summed : (x y z : ℕ) → y * 65536 + x + z * 65536 ≡ x + (y + z) * 65536
+    summed x y z = omega arith
 
--- A lane by itself.
-lane-one : (x y z : ℕ) → x < 65536 → lanes x y z % 65536 ≡ x
-lane-one x y z h = ap (λ (n : ℕ). n % 65536) (split x y z) ∙ digits-mod (y + 65536 * z) h
-  where
-    split : (x y z : ℕ) → lanes x y z ≡ (y + 65536 * z) * 65536 + x
-    split x y z = omega arith
-
-lane-two : (x y z : ℕ) → x < 65536 → y < 65536 → lanes x y z / 65536 % 65536 ≡ y
-lane-two x y z h k = ap (λ (n : ℕ). n / 65536 % 65536) (split x y z) ∙ ap (λ (n : ℕ). n % 65536) (digits-div (z * 65536 + y) h) ∙ digits-mod z k
-  where
-    split : (x y z : ℕ) → lanes x y z ≡ (z * 65536 + y) * 65536 + x
-    split x y z = omega arith
-
--- The loop, from port 0 on: the lanes of the first p ports, and the number of port p's entry.
+-- The loop, from port 0 on: what the first p ports say, turned right by p places, and the number of port p's entry.
 abbrev soundBy : Shape → Model → ℕ → ℕ → Bool
 soundBy s t a p = sound s t (entryOf s a p)
 
 abbrev unsound : Shape → Model → ℕ → ℕ → Bool
 unsound s t a p = not (sound s t (entryOf s a p))
 
-abbrev lanesBelow : Shape → Model → ℕ → ℕ → ℕ
-lanesBelow s t a p = lanes (portsFrom (holds s t a) 0 p) (portsFrom (owns s t a) 0 p) (portsFrom (unsound s t a) 0 p)
+abbrev marked : Shape → Model → ℕ → ℕ → ℕ
+marked s t a p = portsFrom (owns s t a) 0 p + portsFrom (unsound s t a) 0 p
 
-pub record Surveyed (l : Line) (t : Model) (sum p k : ℕ) : Type 0 where
+pub record Surveyed (l : Line) (t : Model) (turned p k : ℕ) : Type 0 where
   pub at : Running l p k
   pub most : p ≤ l .shape .ports
-  pub now : sum ≡ lanesBelow (l .shape) t (l .number) p
+  pub now : turned ≡ turnedBy p (portsFrom (holds (l .shape) t (l .number)) 0 p) (marked (l .shape) t (l .number) p)
 
 module _ (l : Line) (v : Placed l) (g h d : List ℕ) where
   abbrev s : Shape
@@ -152,19 +150,14 @@ module _ (l : Line) (v : Placed l) (g h d : List ℕ) where
   abbrev t : Model
   t = tablesIn (l .shape) g h d
 
+  abbrev holders : ℕ → ℕ
+  holders p = portsFrom (holds s t a) 0 p
+
   pub surveyed-none : Surveyed l t 0 0 (l .place .index)
   unfolding portsFrom
-  surveyed-none = record { at = running-first v; most = omega arith; now = refl }
+  surveyed-none = record { at = running-first v; most = omega arith; now = omega arith }
 
-  lane-lt : (f : ℕ → Bool) (p : ℕ) → p ≤ s .ports → portsFrom f 0 p < 256
-  lane-lt f p e = omega (arith, mask-lt f 0 p, pow-mono {i = p} {j = 8} (omega (arith, few v)))
-
-  -- The sum fits its type.
-  pub surveyed-fits : {sum p k : ℕ} → Surveyed l t sum p k → sum < 2199023255552
-  surveyed-fits {sum} {p} u =
-      omega (arith, u .now, lane-lt (holds s t a) p (u .most), lane-lt (owns s t a) p (u .most), lane-lt (unsound s t a) p (u .most))
-
-  -- What port p says, a place further up for each port before it.
+  -- What the port of entry k says.
   look-lanes : (p : ℕ) {k : ℕ} → k ≡ entryOf s a p
       → lookLanes (l .place) (getD (numbers 4 (entries s) g) k 0) (getD h k 0) ≡ lanes (bit (holds s t a p)) (bit (owns s t a p)) (bit (unsound s t a p))
   unfolding lookLanes seen sound tablesIn
@@ -178,33 +171,68 @@ module _ (l : Line) (v : Placed l) (g h d : List ℕ) where
             (indexOf s a) (s .lines) (mod-lt a (some v)),
       )
 
-  module _ {sum p k x : ℕ} (u : Surveyed l t sum p k) (q : p < s .ports)
-      (ex : x ≡ lookLanes (l .place) (getD (numbers 4 (entries s) g) k 0) (getD h k 0)) where
-    placed-up : x * 2 ^ p % 2 ^ 64 ≡ x * 2 ^ p
-    placed-up = shl-exact {a = x} 33 p 64 (look-fits _ _ _ ex) (omega (arith, few v))
+  module _ {turned p k x : ℕ} (u : Surveyed l t turned p k) (q : p < s .ports)
+      (ex : x ≡ folded (lookLanes (l .place) (getD (numbers 4 (entries s) g) k 0) (getD h k 0))) where
+    says : x ≡ bit (holds s t a p) + (bit (owns s t a p) + bit (unsound s t a p)) * 65536
+    says =
+        ex ∙ ap folded (look-lanes p (u .at .number))
+        ∙ folded-is _ _ (bit (unsound s t a p)) (omega (arith, bit-le (holds s t a p))) (omega (arith, bit-le (owns s t a p)))
+
+    -- It fits beside what was said before.
+    pub surveyed-fits : turned + x < 2 ^ 64
+    surveyed-fits =
+        omega (
+          arith,
+          u .now,
+          turned-room p (holders p) (marked s t a p) (omega (arith, few v)) (mask-lt (holds s t a) 0 p)
+              (omega (arith, mask-lt (owns s t a) 0 p, mask-lt (unsound s t a) 0 p)),
+          says,
+          bit-le (holds s t a p),
+          bit-le (owns s t a p),
+          bit-le (unsound s t a p),
+        )
 
     one-more : (f : ℕ → Bool) → portsFrom f 0 (p + 1) ≡ portsFrom f 0 p + bit (f p) * 2 ^ p
     one-more f = ap (portsFrom f 0) (add-one p) ∙ mask-next f 0 p (sym (zero-add p))
 
-    pub surveyed-small : sum + x * 2 ^ p % 2 ^ 64 < 4398046511104
-    surveyed-small = omega (arith, surveyed-fits u, placed-up, shl-lt 33 p (look-fits _ _ _ ex), pow-mono {i = 33 + p} {j = 41} (omega (arith, few v)))
+    pub surveyed-more : {y : ℕ} → y ≡ (turned + x) / 2 + (turned + x) % 2 * 2 ^ 63 → Surveyed l t y (p + 1) (k + s .sets)
+    surveyed-more ey =
+        let c : ℕ = bit (owns s t a p) + bit (unsound s t a p) in
+        let both : marked s t a (p + 1) ≡ marked s t a p + c * 2 ^ p = omega (
+          arith,
+          one-more (owns s t a),
+          one-more (unsound s t a),
+          add-mul (bit (owns s t a p)) (bit (unsound s t a p)) (2 ^ p),
+        ) in
+        record {
+          at = running-next v (u .at);
+          most = omega arith;
+          now = ey ∙ turned-once p (holders p) (marked s t a p) (bit (holds s t a p)) c (omega (arith, few v)) (bit-le (holds s t a p))
+              (omega (arith, u .now, says))
+              ∙ ap (λ (m : ℕ). turnedBy (p + 1) m (marked s t a p + c * 2 ^ p)) (sym (one-more (holds s t a)))
+              ∙ ap (turnedBy (p + 1) (holders (p + 1))) (sym both);
+        }
 
-    pub surveyed-more : Surveyed l t (sum + x * 2 ^ p % 2 ^ 64) (p + 1) (k + s .sets)
-    surveyed-more = record {
-      at = running-next v (u .at);
-      most = omega arith;
-      now = omega (
-        arith,
-        placed-up,
-        u .now,
-        ap (λ (y : ℕ). y * 2 ^ p) (ex ∙ look-lanes p (u .at .number)),
-        one-more (holds s t a),
-        one-more (owns s t a),
-        one-more (unsound s t a),
-      );
-    }
+  -- Owners hold the line, and unsound entries do not.
+  owner-holds : (p : ℕ) → Is (owns s t a p) → Is (holds s t a p)
+  owner-holds p = owner-valid (seen s t a p)
 
-  -- All ports are passed: the lanes are the masks.
+  holder-sound : (p : ℕ) → Is (holds s t a p) → Is (soundBy s t a p)
+  unfolding sound
+  holder-sound p y =
+      let tag = seen-tag s t a p y in
+      let byte : Byte = stateOf (getD (t .states) (entryOf s a p) 0) in
+      let home : homeAt s t (entryOf s a p) ≡ a = rw (entry-index s (some v) a p, tag) (div-add-mod' a (s .sets)) in
+      both (valid-state byte (ap valid (sym (seen-here s t a p tag)) ∙ y)) (or-r (not (valid (orInvalid byte))) (rw home (lt-ltb a (s .lines) (v .below))))
+    where
+      valid-state : (b : Byte) → Is (valid (orInvalid b)) → Is (isState b)
+      valid-state (Of x) y = refl
+      valid-state No y = absurd (false≢true y)
+
+  unsound-holds-not : (p : ℕ) → Is (unsound s t a p) → Is (not (holds s t a p))
+  unsound-holds-not p y = not-is (holds s t a p) (λ x. not-both (holder-sound p x) y)
+
+  -- All ports are passed, and all is turned back: the lanes are the masks.
   not-all : (f : ℕ → Bool) (n : ℕ) → anyBelow (λ p. not (f p)) n ≡ not (allBelow f n)
   unfolding anyBelow allBelow
   not-all f zero = refl
@@ -214,33 +242,54 @@ module _ (l : Line) (v : Placed l) (g h d : List ℕ) where
       nand true b = refl
       nand false b = refl
 
-  pub surveyed-done : {sum p k : ℕ} → Surveyed l t sum p k → s .ports ≤ p
-      → _≡_ {A = Masks} (record { sound = ltb sum 4294967296; holders = sum % 65536; owners = sum / 65536 % 65536 }) (masksOf s t a)
-  unfolding masksOf columnSound
-  surveyed-done {sum} {p} u z =
-      let now : sum ≡ lanesBelow s t a (s .ports) = u .now ∙ ap (lanesBelow s t a) (omega (arith, u .most)) in
-      let la = lane-lt (holds s t a) (s .ports) (omega arith) in
-      let lb = lane-lt (owns s t a) (s .ports) (omega arith) in
-      let holders : sum % 65536 ≡ portsFrom (holds s t a) 0 (s .ports) = rw now
-      (lane-one _ (portsFrom (owns s t a) 0 (s .ports)) (portsFrom (unsound s t a) 0 (s .ports)) (omega (arith, la))) in
-      let owners : sum / 65536 % 65536 ≡ portsFrom (owns s t a) 0 (s .ports) = rw now
-      (lane-two (portsFrom (holds s t a) 0 (s .ports)) _ (portsFrom (unsound s t a) 0 (s .ports)) (omega (arith, la)) (omega (arith, lb))) in
-      let fine : ltb sum 4294967296 ≡ allBelow (soundBy s t a) (s .ports) = by-bool (allBelow (soundBy s t a) (s .ports))
-      (λ y. rw y (lt-ltb sum 4294967296 (omega (arith, now, la, lb, empty y))))
-      (λ y. rw (not-true (allBelow (soundBy s t a) (s .ports)) y) (le-ltb sum 4294967296 (omega (arith, now, filled y))))
-      in rw (holders, owners, fine)
-    where
-      any : not (eqb (portsFrom (unsound s t a) 0 (s .ports)) 0) ≡ not (allBelow (soundBy s t a) (s .ports))
-      any = mask-any (unsound s t a) (s .ports) ∙ not-all (soundBy s t a) (s .ports)
+  module _ {turned p k sum : ℕ} (u : Surveyed l t turned p k) (z : s .ports ≤ p)
+      (es : sum ≡ turned % 2 ^ (64 - s .ports) * 2 ^ s .ports + turned / 2 ^ (64 - s .ports)) where
+    abbrev n : ℕ
+    n = s .ports
 
-      empty : Is (allBelow (soundBy s t a) (s .ports)) → portsFrom (unsound s t a) 0 (s .ports) ≡ 0
-      empty y = eqb-true _ _ (not-false _ (any ∙ ap not y))
+    lane-lt : (f : ℕ → Bool) → portsFrom f 0 n < 256
+    lane-lt f = omega (arith, mask-lt f 0 n, pow-mono {i = n} {j = 8} (few v))
 
-      filled : Is (not (allBelow (soundBy s t a) (s .ports))) → 0 < portsFrom (unsound s t a) 0 (s .ports)
-      filled y = positive _ (eqb-false _ _ (not-true _ (any ∙ y)))
-        where
-          positive : (n : ℕ) → (n ≡ 0 → ⊥) → 0 < n
-          positive n h = omega (arith, h)
+    laid : sum ≡ marked s t a n * 65536 + holders n
+    laid =
+        es ∙ turned-back n (holders n) (marked s t a n) (few v) (omega (arith, lane-lt (owns s t a), lane-lt (unsound s t a)))
+        (u .now ∙ ap (λ (m : ℕ). turnedBy m (holders m) (marked s t a m)) {x = p} {y = n} (omega (arith, u .most)))
+
+    holders-are : sum % 65536 ≡ holders n
+    holders-are = ap (λ (x : ℕ). x % 65536) laid ∙ digits-mod (marked s t a n) (omega (arith, lane-lt (holds s t a)))
+
+    marked-are : sum / 65536 ≡ marked s t a n
+    marked-are = ap (λ (x : ℕ). x / 65536) laid ∙ digits-div (marked s t a n) (omega (arith, lane-lt (holds s t a)))
+
+    owners-are : bitAnd (sum / 65536) (sum % 65536) ≡ portsFrom (owns s t a) 0 n
+    owners-are = rw (holders-are, marked-are) (mask-within (owns s t a) (unsound s t a) (holds s t a) owner-holds unsound-holds-not 0 n)
+
+    all-sound : eqb (bitAnd (sum / 65536) (sum % 65536)) (sum / 65536) ≡ allBelow (soundBy s t a) n
+    all-sound =
+        rw (owners-are, marked-are) (by-bool (allBelow (soundBy s t a) n)
+        (λ y. rw y (eq-eqb (portsFrom (owns s t a) 0 n) (marked s t a n) (omega (arith, empty y))))
+        (λ y. rw (not-true (allBelow (soundBy s t a) n) y) (ne-eqb (portsFrom (owns s t a) 0 n) (marked s t a n) (λ e. absurd (omega (arith, filled y))))))
+      where
+        any : not (eqb (portsFrom (unsound s t a) 0 n) 0) ≡ not (allBelow (soundBy s t a) n)
+        any = mask-any (unsound s t a) n ∙ not-all (soundBy s t a) n
+
+        empty : Is (allBelow (soundBy s t a) n) → portsFrom (unsound s t a) 0 n ≡ 0
+        empty y = eqb-true _ _ (not-false _ (any ∙ ap not y))
+
+        filled : Is (not (allBelow (soundBy s t a) n)) → 0 < portsFrom (unsound s t a) 0 n
+        filled y = positive _ (eqb-false _ _ (not-true _ (any ∙ y)))
+          where
+            positive : (m : ℕ) → (m ≡ 0 → ⊥) → 0 < m
+            positive m h = omega (arith, h)
+
+    pub surveyed-done
+        : _≡_ {A = Masks} (record {
+          sound = eqb (bitAnd (sum / 65536) (sum % 65536)) (sum / 65536);
+          holders = sum % 65536;
+          owners = bitAnd (sum / 65536) (sum % 65536);
+        }) (masksOf s t a)
+    unfolding masksOf columnSound
+    surveyed-done = rw (all-sound, owners-are, holders-are)
 
 -- What the masks say is what the definitions ask, in the tables with any memory beside them.
 module _ (s : Shape) (t : Model) (a : ℕ) {x : Masks} (e : x ≡ masksOf s t a) where

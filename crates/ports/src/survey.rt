@@ -8,7 +8,7 @@ use protocol::state;
 use words::choose;
 ghost use mathlib.Core.Path.{_≡_};
 ghost use mathlib.Core.Bool.{true};
-ghost use Prim.Native.Nat.{_<_};
+ghost use Prim.Native.Nat.{ℕ, _+_, _*_, _-_, _/_, _%_, _^_, _<_};
 ghost use lib.ListN.{getD};
 ghost use Rattle.endian.specs.Little.{numbers};
 ghost use Rattle.model.specs.Shape.{inRange, entries};
@@ -23,35 +23,54 @@ pub struct Masks {
     pub owners: u64,
 }
 
-// What an entry with the tag t and the state byte b says, in three lanes of 16 bits: bit 0 that it holds the line, bit 16 that it owns it,
-// bit 32 that it is unsound. Bit b of a row's lanes says it of byte b: for the line's tag the row is the match's own; for another tag below
-// the limit only what is no state counts; for one not below it, all but I. A byte from 16 on is no state, as 15 is none, and is looked up
-// as 15. No branch depends on the entry: what tables hold follows no pattern.
+// What an entry with the tag t and the state byte b says, in two lanes of 16 bits: bit 0 that it holds the line, bit 16 that it owns it or is
+// unsound. An owner holds the line and an unsound entry does not, so that bit 16 by itself is the mark of an unsound one. Bit b of a row's
+// lanes says it of byte b: for the line's tag the row is the match's own; for another tag below the limit only what is no state counts; for
+// one not below it, all but I. A byte from 16 on is no state, as 15 is none, and is looked up as 15. No branch depends on the entry: what
+// tables hold follows no pattern.
 fn lanes_at(place: Place, t: u32, b: u8) -> u64
     requires { ⌜ place .tag < place .limit ⌝ }
-    ensures { λ r. ⌜ r ≡ lookLanes place t b ⌝ }
+    ensures { λ r. ⌜ r ≡ lookLanes place t b % 4294967296 + lookLanes place t b / 4294967296 * 65536 ⌝ }
 {
-    let here = state::state_row();
-    let near = here / 4294967296 * 4294967296;
-    let far = near + here % 65536 * 4294967296;
+    let own = state::state_row();
+    let near = own / 4294967296 * 65536;
+    let here = near + own % 4294967296;
+    let far = near + own % 65536 * 65536;
     let away = choose::choose_word(t < place.limit, near, far);
     let row = choose::choose_word(t == place.tag, here, away);
     let x = row >> choose::choose_byte(b < 16, b, 15);
-    x % 2 + x / 65536 % 2 * 65536 + x / 4294967296 % 2 * 4294967296
+    x % 2 + x / 65536 % 2 * 65536
 }
 
 fn entry_lanes(tags: &[u8], states: &[u8], words: &[u8], line: Line, k: usize) -> u64
     requires { ⌜ Filled (line .shape) (now tags) (now states) (now words) ⌝ }
     requires { ⌜ Placed line ⌝ }
     requires { ⌜ k < entries (line .shape) ⌝ }
-    ensures { λ r. ⌜ r ≡ lookLanes (line .place) (getD (numbers 4 (entries (line .shape)) (now (tags .entry))) k 0)
-        (getD (now (states .entry)) k 0) ⌝ }
+    ensures { λ r. ⌜ (let n : ℕ = lookLanes (line .place) (getD (numbers 4 (entries (line .shape)) (now (tags .entry))) k 0)
+        (getD (now (states .entry)) k 0) in r ≡ n % 4294967296 + n / 4294967296 * 65536) ⌝ }
 {
     lanes_at(line.place, entry::tag_at(tags, k), states[k])
 }
 
-// Asks every port, in one pass. The number of the port's entry runs beside the port, from the index on: sets more for each port. No word is
-// read: the words are lent so that what is said is said of the whole tables.
+// A number turned right by a place: its lowest bit becomes its highest.
+fn turned_right(x: u64) -> u64
+    ensures { λ r. ⌜ r ≡ x / 2 + x % 2 * 2 ^ 63 ⌝ }
+{
+    x / 2 + x % 2 * 9223372036854775808
+}
+
+// A number turned left by n places: its n highest bits become its lowest.
+fn turned_left(x: u64, n: usize) -> u64
+    requires { ⌜ (0 < n) × (n < 64) ⌝ }
+    ensures { λ r. ⌜ r ≡ x % 2 ^ (64 - n) * 2 ^ n + x / 2 ^ (64 - n) ⌝ }
+{
+    (x << n) + (x >> (64 - n))
+}
+
+// Asks every port, in one pass. The number of the port's entry runs beside the port, from the index on: sets more for each port. What a port
+// says comes in at the lanes' lowest bits and is turned right by a place for it and for each port after it, and at the end back by as many
+// places as there are ports, so that port p's bit is bit p. No word is read: the words are lent so that what is said is said of the whole
+// tables.
 fn survey_ports(tags: &[u8], states: &[u8], words: &[u8], line: Line) -> Masks
     requires { ⌜ Filled (line .shape) (now tags) (now states) (now words) ⌝ }
     requires { ⌜ Placed line ⌝ }
@@ -60,19 +79,23 @@ fn survey_ports(tags: &[u8], states: &[u8], words: &[u8], line: Line) -> Masks
 {
     let sets = line.shape.sets;
     let ports = line.shape.ports;
-    let mut sum = 0u64;
+    let mut turned = 0u64;
     let mut k = line.place.index;
     let mut p = 0usize;
     while p < ports {
         let seen = entry_lanes(tags, states, words, line, k);
-        sum += seen << p;
+        turned = turned_right(turned + seen);
         k += sets;
         p += 1;
     }
+    let sum = turned_left(turned, ports);
+    let holders = sum % 65536;
+    let marked = sum / 65536;
+    let owners = marked & holders;
     Masks {
-        sound: sum < 4294967296,
-        holders: sum % 65536,
-        owners: sum / 65536 % 65536,
+        sound: owners == marked,
+        holders,
+        owners,
     }
 }
 

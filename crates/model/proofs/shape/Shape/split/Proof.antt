@@ -1,36 +1,33 @@
--- The tag by a shift, the index by what is left. Assumes nothing.
+-- The tag by a shift, the index by the bits below it. Assumes nothing.
 use borrow.Author.Needs.{needs}
+use native.Mathlib.Nat.{mod-lt}
 use native.Mathlib.Omega.{arith}
 use Rattle.model.proofs.Lent.{some-sets}
-use Rattle.model.proofs.Bounds.{bounded, shifted-most, shifted-left}
+use Rattle.model.proofs.Bounds.{bounded, bits-below}
 use Rattle.model.proofs.shape.Shape.split.Statement.{statement}
 use Rattle.model.proofs.shape.Shape.split.Tie as tie
 
-mul-index : tie.Need-mul-index
-mul-index c = omega (
-  arith,
-  shifted-most (c .before .args .a) (c .before .args .self .sets) (c .shift .result) (c .shift .ensures .0),
-  (c .before .fits .a),
-)
+sub-most : tie.Need-sub-most
+sub-most c = let start : tie.Start = search in some-sets (start .args .self) (start .pre .0)
 
-sub-index : tie.Need-sub-index
-sub-index c = search shifted-most
+add-t7 : tie.Need-add-t7
+add-t7 c =
+    let start : tie.Start = search in
+    let b = bounded (start .args .self) (start .pre .0) in
+    omega (arith, b .lines, b .sets-most)
 
 sub-t8 : tie.Need-sub-t8
-sub-t8 c = some-sets (c .before .args .self) (c .before .pre .0)
-
-add-t9 : tie.Need-add-t9
-add-t9 c = omega (
-  arith,
-  (bounded (c .before .args .self) (c .before .pre .0)) .lines,
-  (bounded (c .before .args .self) (c .before .pre .0)) .sets-most,
-)
+sub-t8 c =
+    let start : tie.Start = search in let by : tie.After-shift = search in
+    let n = start .args .self .sets in
+    omega (arith, bits-below (start .args .a) n _ (by .shift .ensures .0), mod-lt (start .args .a) (some-sets (start .args .self) (start .pre .0)))
 
 returns : tie.Need-returns
 returns c =
-    let e = shifted-left (c .before .args .a) (c .before .args .self .sets) (c .shift .result) (c .shift .ensures .0) in
-    ((e, rw (c .shift .ensures .0)), rw (e, (c .shift .ensures .0)))
+    let start : tie.Start = search in let by : tie.After-shift = search in
+    let e = bits-below (start .args .a) (start .args .self .sets) _ (by .shift .ensures .0) in
+    ((e, rw (by .shift .ensures .0)), rw (e, (by .shift .ensures .0)))
 
 pub split-spec : {M : Type 1} → statement M
 split-spec =
-    tie.close (tie.spec (λ c κs. search needs) (λ c. search needs) mul-index sub-index sub-t8 add-t9 (λ c. search needs) (λ c. search needs) returns)
+    tie.close (tie.spec (λ c κs. search needs) sub-most (λ c. search needs) add-t7 sub-t8 (λ c. search needs) returns)
