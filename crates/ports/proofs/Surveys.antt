@@ -11,11 +11,10 @@ use lib.Dec.{eqb, ltb}
 use lib.Arith.{digits-div, digits-mod}
 use lib.Bits.{bitAnd}
 use lib.Pow.{pow-mono}
-use borrow.Author.Tests.{eqb-true, eqb-false, eq-eqb, lt-ltb, le-ltb, ltb-true, ltb-false, ne-eqb, not-true, not-false}
-use Rattle.protocol.specs.declared.state.State.the-variants.{I}
+use borrow.Author.Tests.{eqb-true, eqb-false, eq-eqb, lt-ltb, ltb-true, ltb-false, ne-eqb, not-true, not-false}
 use Rattle.protocol.specs.declared.state.Byte.{Byte}
 use Rattle.protocol.specs.declared.state.Byte.the-variants.{Of, No}
-use Rattle.protocol.specs.State.{stateOf, stateRow, orInvalid, isState, valid, owner}
+use Rattle.protocol.specs.State.{stateOf, stateRow, orInvalid, isState, valid}
 use Rattle.protocol.proofs.States.{state-row-is, owner-valid}
 use Rattle.words.specs.Bools.{bit}
 use Rattle.words.proofs.Bools.{Is, and-l, both, or-r, by-bool, not-is, not-both}
@@ -107,10 +106,7 @@ lanes-are x t b there eh ea er en =
     (by-bool (ltb t (x .limit)) (λ n. rw n (right-row false true row-near k (in-row b)))
     (λ n. rw (not-true (ltb t (x .limit)) n) (right-row false false row-far k (in-row b))))))
 
--- The row as a number, by which the sums and products made from it fit their type.
-pub row-fits : {here : ℕ} → here ≡ stateRow → here ≡ 0xE1F818001E06
-row-fits e = e ∙ state-row-is
-
+-- The shift is by less than a lane.
 pub shift-below : (b : ℕ) {n : ℕ} → n ≡ cond (ltb b 16) b 15 → n < 16
 shift-below b e = rw e (in-row b)
 
