@@ -99,6 +99,32 @@ WALKING = [
      "        w->states[entry_of(w, (unsigned)__builtin_ctz(ports))] = (uint8_t)state;",
      "    {\n        w->states[entry_of(w, (unsigned)__builtin_ctz(ports))] = (uint8_t)state;\n"
      "        if (!state)\n            store64(w->data + 8 * entry_of(w, (unsigned)__builtin_ctz(ports)), 0);\n    }"),
+    # The number of a port's entry: port * sets + index, in the pass over the ports and where the other holders answer.
+    ("the pass over the ports starts at entry 0",
+     "        size_t entry = entry_of(w, p);",
+     "        size_t entry = p * w->sets;"),
+    ("the pass over the ports adds sets + 1",
+     "        size_t entry = entry_of(w, p);",
+     "        size_t entry = (p * (w->sets + 1) + w->index) % (w->ports * w->sets);"),
+    ("the pass over the ports adds nothing after an entry in I",
+     "    for (unsigned p = 0; p < w->ports; p++) {\n        size_t entry = entry_of(w, p);\n"
+     "        unsigned state = w->states[entry];\n        uint32_t tag;\n\n        if (state == INVALID)\n            continue;\n",
+     "    for (unsigned p = 0, q = 0; p < w->ports; p++) {\n        size_t entry = entry_of(w, q);\n"
+     "        unsigned state = w->states[entry];\n        uint32_t tag;\n\n        if (state == INVALID)\n            continue;\n        q++;\n"),
+    ("the holders that answer start at entry 0",
+     "        w->states[entry_of(w, (unsigned)__builtin_ctz(ports))] = (uint8_t)state;",
+     "        w->states[(unsigned)__builtin_ctz(ports) * w->sets] = (uint8_t)state;"),
+    ("the holders that answer are sets + 1 apart",
+     "        w->states[entry_of(w, (unsigned)__builtin_ctz(ports))] = (uint8_t)state;",
+     "        w->states[((unsigned)__builtin_ctz(ports) * (w->sets + 1) + w->index) % (w->ports * w->sets)] = (uint8_t)state;"),
+    ("after a port passed over the number is sets too low where the holders answer",
+     "    for (; ports; ports &= ports - 1)\n        w->states[entry_of(w, (unsigned)__builtin_ctz(ports))] = (uint8_t)state;",
+     "    for (unsigned all = ports; ports; ports &= ports - 1) {\n        unsigned p = (unsigned)__builtin_ctz(ports);\n\n"
+     "        w->states[entry_of(w, p && !(all >> (p - 1) & 1) ? p - 1 : p)] = (uint8_t)state;\n    }"),
+    ("after a port passed over the number is sets too low where the holders take a word",
+     "        size_t other = entry_of(w, (unsigned)__builtin_ctz(others));",
+     "        size_t other = entry_of(w, (unsigned)__builtin_ctz(others)\n"
+     "                                       - (__builtin_ctz(others) && !(w->holders >> (__builtin_ctz(others) - 1) & 1)));"),
     ("a miss keeps the old tag of an invalid entry",
      "    store32(w->tags + 4 * entry, w->tag);",
      "    if (evicted)\n        store32(w->tags + 4 * entry, w->tag);"),

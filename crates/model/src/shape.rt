@@ -108,7 +108,7 @@ impl Shape {
         }
     }
 
-    // By a shift and the bits below the sets' own: no division and no product on the way of a step.
+    // By shifts and the bits below the sets' own: no division on the way of a step, and no product here.
     fn split(self, a: usize) -> Split
         requires { ⌜ (inRange self ≡ true) × (a < self .lines) ⌝ }
         ensures { λ r. ⌜ ((r .index ≡ a % self .sets) × (r .tag ≡ a / self .sets)) × (r .limit ≡ (self .lines + (self .sets - 1) - a % self .sets) / self .sets) ⌝ }

@@ -212,23 +212,6 @@ module _ {l : Line} (v : Placed l) {g₀ h₀ d₀ : List ℕ} (bus w asked : �
       in-k : entryOf s a (p + z) < entries s
       in-k = entry-lt s (some v) a (p + z) next-below
 
-      -- Its number, and where its part of the tables starts.
-      module _ {x : ℕ} (ex : x ≡ z * s .sets + j) where
-        here : Running l (p + z) x
-        here = running-on v z (u .at) ex
-
-        pub part-starts : l .place .index ≤ x
-        part-starts = omega (arith, here .number, index-is v)
-
-        pub next-fits : x + s .sets < 1024
-        next-fits = running-fits v here next-below
-
-        at-k : x - l .place .index + l .place .index ≡ entryOf s a (p + z)
-        at-k = ap (λ (n : ℕ). n + l .place .index) (here .part) ∙ number-is v (p + z)
-
-        pub next-room : Room g h d (x - l .place .index + l .place .index)
-        next-room = rw at-k (room (u .filled) in-k)
-
       reached : tablesIn s g h d ≡ after (p + z)
       reached = u .now ∙ sym (skip s (some v) t₀ a (inMask asked) (busAt bus) w p z (first .lower))
 
@@ -266,16 +249,32 @@ module _ {l : Line} (v : Placed l) {g₀ h₀ d₀ : List ℕ} (bus w asked : �
       words-put fits true = set-numbers 8 (entries s) (entryOf s a (p + z)) w d in-k (omega arith) (omega (arith, u .filled .words-fit))
       words-put fits false = sym (set-getD (numbers 8 (entries s) d) (entryOf s a (p + z)) 0)
 
+      -- Its number, and where its part of the tables starts.
       module _ {x : ℕ} (ex : x ≡ z * s .sets + j) where
         abbrev k : ℕ
         k = x - l .place .index + l .place .index
+
+        here : Running l (p + z) x
+        here = running-on v z (u .at) ex
+
+        pub part-starts : l .place .index ≤ x
+        part-starts = omega (arith, here .number, index-is v)
+
+        pub next-fits : x + s .sets < 1024
+        next-fits = running-fits v here next-below
+
+        at-k : k ≡ entryOf s a (p + z)
+        at-k = ap (λ (n : ℕ). n + l .place .index) (here .part) ∙ number-is v (p + z)
+
+        pub next-room : Room g h d k
+        next-room = rw at-k (room (u .filled) in-k)
 
         now-answered : w < 2 ^ 64 → {g' h' d' : List ℕ} {c : Command} → c ≡ commandOf bus → g' ≡ g → h' ≡ statesAnswered c k h
             → d' ≡ wordsAnswered c w k d
             → tablesIn s g' h' d' ≡ after (suc (p + z))
         unfolding tablesIn answered putBelow statesAnswered wordsAnswered commandOf
         now-answered fits ec eg eh ed =
-            rw (eg, eh, ed, ec, at-k ex)
+            rw (eg, eh, ed, ec, at-k)
             (model-eq refl (ap (λ (t : Model). t .tags) reached)
             (ap (set h (entryOf s a (p + z))) byte-is ∙ ap (λ (t : Model). set (t .states) (entryOf s a (p + z))
             (byteAnswered s t₀ a (inMask asked) (busAt bus) (p + z))) reached)
@@ -292,7 +291,7 @@ module _ {l : Line} (v : Placed l) {g₀ h₀ d₀ : List ℕ} (bus w asked : �
             (omega (arith, first .below)) refl in
             record {
               port = p + z + 1;
-              at = running-next v (here ex);
+              at = running-next v here;
               filled = refilled (u .filled) eg eh ed;
               now = now-answered fits ec (e .0) (e .1 .0) (e .1 .1) ∙ ap after (sym (add-one (p + z)));
               count = n;

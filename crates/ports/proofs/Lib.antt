@@ -3,6 +3,6 @@ pub mod Bytes
 pub mod Places
 pub mod Puts
 pub mod Masks
-pub mod Turns
+pub mod Rotations
 pub mod Surveys
 pub mod Answers

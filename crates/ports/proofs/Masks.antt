@@ -1,4 +1,4 @@
--- Laws of masks of ports: bits, the empty mask, the lowest port in one, one without a port. Assumes nothing.
+-- Laws of masks of ports: bits, one port more, the empty mask, the lowest port in one, one without a port, one within another. Assumes nothing.
 use Prim.Native.Nat.{ℕ, zero, suc, _+_, _*_, _-_, _/_, _%_, _^_, _<_, _≤_, min}
 use mathlib.Core.Path.{_≡_, refl, sym, ap, _∙_, subst}
 use mathlib.Core.Bool.{Bool, true, false, _&&_, not, false≢true}
@@ -19,21 +19,21 @@ use Rattle.model.specs.Tables.{Model, holds}
 use Rattle.ports.specs.Masks.{portsFrom, inMask, OfHolders}
 
 -- The lowest digit, and the rest.
-pub lower : (m x : ℕ) → m ≤ 1 → (m + 2 * x) % 2 ≡ m
-lower m x h = omega arith
+pub lowest-digit : (m x : ℕ) → m ≤ 1 → (m + 2 * x) % 2 ≡ m
+lowest-digit m x h = omega arith
 
-pub upper : (m x : ℕ) → m ≤ 1 → (m + 2 * x) / 2 ≡ x
-upper m x h = omega arith
+pub other-digits : (m x : ℕ) → m ≤ 1 → (m + 2 * x) / 2 ≡ x
+other-digits m x h = omega arith
 
 pub bit-le : (b : Bool) → bit b ≤ 1
 bit-le true = omega arith
 bit-le false = omega arith
 
 low : (b : Bool) (x : ℕ) → (bit b + 2 * x) % 2 ≡ bit b
-low b x = lower (bit b) x (bit-le b)
+low b x = lowest-digit (bit b) x (bit-le b)
 
 rest : (b : Bool) (x : ℕ) → (bit b + 2 * x) / 2 ≡ x
-rest b x = upper (bit b) x (bit-le b)
+rest b x = other-digits (bit b) x (bit-le b)
 
 pub bit-is : (b : Bool) → eqb (bit b) 1 ≡ b
 bit-is true = refl
@@ -183,8 +183,8 @@ mask-within f g h inside outside a (suc n) =
     rw (
       whole,
       and-step (m + 2 * x) (bit (h a) + 2 * y),
-      upper m x (digit .0),
-      lower m x (digit .0),
+      other-digits m x (digit .0),
+      lowest-digit m x (digit .0),
       rest (h a) y,
       low (h a) y,
       digit .1,

@@ -4,7 +4,7 @@ use mathlib.Core.Path.{_≡_, refl, sym, ap, _∙_}
 use mathlib.Core.Bool.{true}
 use mathlib.Core.List.{List}
 use native.Mathlib.Omega.{arith}
-use native.Mathlib.Nat.{mod-lt, div-add-mod', mul-le-mul, add-mul, one-mul}
+use native.Mathlib.Nat.{mod-lt, div-add-mod', mul-le-mul, add-mul}
 use borrow.Author.Tests.{ltb-true, lt-ltb}
 use lib.ListN.{getD, set}
 use lib.Seq.{sets}
@@ -68,12 +68,6 @@ module _ {l : Line} (v : Placed l) where
 
     pub small : p < l .shape .ports → p * l .shape .sets + l .place .index < 512
     small q = omega (arith, there q, bounded (l .shape) (v .range) .entries-most)
-
--- What n ports take of the tables, by one port less.
-pub one-port-less : {n : ℕ} → (n ≡ 0 → ⊥) → (sets : ℕ) → n * sets ≡ (n - 1) * sets + sets
-one-port-less {n} h sets =
-    let e : n ≡ n - 1 + 1 = omega (arith, h) in
-    ap (λ (x : ℕ). x * sets) e ∙ add-mul (n - 1) 1 sets ∙ ap (λ (x : ℕ). (n - 1) * sets + x) (one-mul sets)
 
 -- The number that runs beside a loop over the ports: at port p it is that of the port's entry for the line, and the port's part of the tables
 -- starts the index before it, at p * sets.

@@ -35,7 +35,7 @@ use Rattle.ports.specs.Masks.{portsFrom, lanes, saysOf, lookLanes, masks
 use Rattle.ports.specs.Bus.{AllStates}
 use Rattle.ports.proofs.Places.{some, few, tag-is, limit-at, Running, running-first, running-next}
 use Rattle.ports.proofs.Masks.{bit-le, bit-is, mask-lt, mask-next, mask-bit, mask-any, mask-within}
-use Rattle.ports.proofs.Turns.{turnedBy, turned-room, turned-once, turned-back}
+use Rattle.ports.proofs.Rotations.{rotatedBy, rotated-room, rotated-once, rotated-back}
 
 -- What an entry says in two lanes: the third is laid over the second.
 abbrev folded : ℕ → ℕ
@@ -121,20 +121,21 @@ folded-is x y z h k =
     summed : (x y z : ℕ) → y * 65536 + x + z * 65536 ≡ x + (y + z) * 65536
     summed x y z = omega arith
 
--- The loop, from port 0 on: what the first p ports say, turned right by p places, and the number of port p's entry.
+-- The loop, from port 0 on: what the first p ports say, rotated right by p bits, and the number of port p's entry.
 abbrev soundBy : Shape → Model → ℕ → ℕ → Bool
 soundBy s t a p = sound s t (entryOf s a p)
 
 abbrev unsound : Shape → Model → ℕ → ℕ → Bool
 unsound s t a p = not (sound s t (entryOf s a p))
 
+-- The ports that own the line, and those whose entry is unsound: no port is both.
 abbrev marked : Shape → Model → ℕ → ℕ → ℕ
 marked s t a p = portsFrom (owns s t a) 0 p + portsFrom (unsound s t a) 0 p
 
-pub record Surveyed (l : Line) (t : Model) (turned p k : ℕ) : Type 0 where
+pub record Surveyed (l : Line) (t : Model) (rotated p k : ℕ) : Type 0 where
   pub at : Running l p k
   pub most : p ≤ l .shape .ports
-  pub now : turned ≡ turnedBy p (portsFrom (holds (l .shape) t (l .number)) 0 p) (marked (l .shape) t (l .number) p)
+  pub now : rotated ≡ rotatedBy p (portsFrom (holds (l .shape) t (l .number)) 0 p) (marked (l .shape) t (l .number) p)
 
 module _ (l : Line) (v : Placed l) (g h d : List ℕ) where
   abbrev s : Shape
@@ -167,7 +168,7 @@ module _ (l : Line) (v : Placed l) (g h d : List ℕ) where
             (indexOf s a) (s .lines) (mod-lt a (some v)),
       )
 
-  module _ {turned p k x : ℕ} (u : Surveyed l t turned p k) (q : p < s .ports)
+  module _ {rotated p k x : ℕ} (u : Surveyed l t rotated p k) (q : p < s .ports)
       (ex : x ≡ folded (lookLanes (l .place) (getD (numbers 4 (entries s) g) k 0) (getD h k 0))) where
     says : x ≡ bit (holds s t a p) + (bit (owns s t a p) + bit (unsound s t a p)) * 65536
     says =
@@ -175,12 +176,12 @@ module _ (l : Line) (v : Placed l) (g h d : List ℕ) where
         ∙ folded-is _ _ (bit (unsound s t a p)) (omega (arith, bit-le (holds s t a p))) (omega (arith, bit-le (owns s t a p)))
 
     -- It fits beside what was said before.
-    pub surveyed-fits : turned + x < 2 ^ 64
+    pub surveyed-fits : rotated + x < 2 ^ 64
     surveyed-fits =
         omega (
           arith,
           u .now,
-          turned-room p (holders p) (marked s t a p) (omega (arith, few v)) (mask-lt (holds s t a) 0 p)
+          rotated-room p (holders p) (marked s t a p) (omega (arith, few v)) (mask-lt (holds s t a) 0 p)
               (omega (arith, mask-lt (owns s t a) 0 p, mask-lt (unsound s t a) 0 p)),
           says,
           bit-le (holds s t a p),
@@ -191,10 +192,10 @@ module _ (l : Line) (v : Placed l) (g h d : List ℕ) where
     one-more : (f : ℕ → Bool) → portsFrom f 0 (p + 1) ≡ portsFrom f 0 p + bit (f p) * 2 ^ p
     one-more f = ap (portsFrom f 0) (add-one p) ∙ mask-next f 0 p (sym (zero-add p))
 
-    pub surveyed-more : {y : ℕ} → y ≡ (turned + x) / 2 + (turned + x) % 2 * 2 ^ 63 → Surveyed l t y (p + 1) (k + s .sets)
+    pub surveyed-more : {y : ℕ} → y ≡ (rotated + x) / 2 + (rotated + x) % 2 * 2 ^ 63 → Surveyed l t y (p + 1) (k + s .sets)
     surveyed-more ey =
         let c : ℕ = bit (owns s t a p) + bit (unsound s t a p) in
-        let both : marked s t a (p + 1) ≡ marked s t a p + c * 2 ^ p = omega (
+        let summed : marked s t a (p + 1) ≡ marked s t a p + c * 2 ^ p = omega (
           arith,
           one-more (owns s t a),
           one-more (unsound s t a),
@@ -203,10 +204,10 @@ module _ (l : Line) (v : Placed l) (g h d : List ℕ) where
         record {
           at = running-next v (u .at);
           most = omega arith;
-          now = ey ∙ turned-once p (holders p) (marked s t a p) (bit (holds s t a p)) c (omega (arith, few v)) (bit-le (holds s t a p))
+          now = ey ∙ rotated-once p (holders p) (marked s t a p) (bit (holds s t a p)) c (omega (arith, few v)) (bit-le (holds s t a p))
               (omega (arith, u .now, says))
-              ∙ ap (λ (m : ℕ). turnedBy (p + 1) m (marked s t a p + c * 2 ^ p)) (sym (one-more (holds s t a)))
-              ∙ ap (turnedBy (p + 1) (holders (p + 1))) (sym both);
+              ∙ ap (λ (m : ℕ). rotatedBy (p + 1) m (marked s t a p + c * 2 ^ p)) (sym (one-more (holds s t a)))
+              ∙ ap (rotatedBy (p + 1) (holders (p + 1))) (sym summed);
         }
 
   -- Owners hold the line, and unsound entries do not.
@@ -228,7 +229,7 @@ module _ (l : Line) (v : Placed l) (g h d : List ℕ) where
   unsound-holds-not : (p : ℕ) → Is (unsound s t a p) → Is (not (holds s t a p))
   unsound-holds-not p y = not-is (holds s t a p) (λ x. not-both (holder-sound p x) y)
 
-  -- All ports are passed, and all is turned back: the lanes are the masks.
+  -- All ports are passed, and all is rotated back: the lanes are the masks.
   not-all : (f : ℕ → Bool) (n : ℕ) → anyBelow (λ p. not (f p)) n ≡ not (allBelow f n)
   unfolding anyBelow allBelow
   not-all f zero = refl
@@ -238,8 +239,8 @@ module _ (l : Line) (v : Placed l) (g h d : List ℕ) where
       nand true b = refl
       nand false b = refl
 
-  module _ {turned p k sum : ℕ} (u : Surveyed l t turned p k) (z : s .ports ≤ p)
-      (es : sum ≡ turned % 2 ^ (64 - s .ports) * 2 ^ s .ports + turned / 2 ^ (64 - s .ports)) where
+  module _ {rotated p k sum : ℕ} (u : Surveyed l t rotated p k) (z : s .ports ≤ p)
+      (es : sum ≡ rotated % 2 ^ (64 - s .ports) * 2 ^ s .ports + rotated / 2 ^ (64 - s .ports)) where
     abbrev n : ℕ
     n = s .ports
 
@@ -248,8 +249,8 @@ module _ (l : Line) (v : Placed l) (g h d : List ℕ) where
 
     laid : sum ≡ marked s t a n * 65536 + holders n
     laid =
-        es ∙ turned-back n (holders n) (marked s t a n) (few v) (omega (arith, lane-lt (owns s t a), lane-lt (unsound s t a)))
-        (u .now ∙ ap (λ (m : ℕ). turnedBy m (holders m) (marked s t a m)) {x = p} {y = n} (omega (arith, u .most)))
+        es ∙ rotated-back n (holders n) (marked s t a n) (few v) (omega (arith, lane-lt (owns s t a), lane-lt (unsound s t a)))
+        (u .now ∙ ap (λ (m : ℕ). rotatedBy m (holders m) (marked s t a m)) {x = p} {y = n} (omega (arith, u .most)))
 
     holders-are : sum % 65536 ≡ holders n
     holders-are = ap (λ (x : ℕ). x % 65536) laid ∙ digits-mod (marked s t a n) (omega (arith, lane-lt (holds s t a)))

@@ -70,7 +70,7 @@ fn answer_from(
     );
 }
 
-// The number of an entry, that many ports on: sets more for each port that is passed over.
+// The number of the entry that lies so many ports after entry k, at the same index: sets more for each port.
 fn passed(k: usize, sets: usize, ports: usize) -> usize
     requires { ⌜ ports * sets + k < 2 ^ 64 ⌝ }
     ensures { λ r. ⌜ r ≡ ports * sets + k ⌝ }
@@ -85,7 +85,7 @@ fn passed(k: usize, sets: usize, ports: usize) -> usize
 }
 
 // Every port of the mask answers command number bus. The number of the port's entry runs from the index on: sets more for each port, asked or
-// passed over.
+// passed over. The port's part of the tables starts the index before it.
 fn broadcast(
     tags: &mut [u8],
     states: &mut [u8],

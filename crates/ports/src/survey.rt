@@ -24,10 +24,10 @@ pub struct Masks {
 }
 
 // What an entry with the tag t and the state byte b says, in two lanes of 16 bits: bit 0 that it holds the line, bit 16 that it owns it or is
-// unsound. An owner holds the line and an unsound entry does not, so that bit 16 by itself is the mark of an unsound one. Bit b of a row's
-// lanes says it of byte b: for the line's tag the row is the match's own; for another tag below the limit only what is no state counts; for
-// one not below it, all but I. A byte from 16 on is no state, as 15 is none, and is looked up as 15. No branch depends on the entry: what
-// tables hold follows no pattern.
+// unsound. An owner holds the line and an unsound entry does not, so that bit 16 by itself is the mark of an unsound one: of the three lanes
+// of `lookLanes` the third is laid over the second. Bit b of a row's lanes says it of byte b: for the line's tag the row is the match's own,
+// so laid; for another tag below the limit only what is no state counts; for one not below it, all but I. A byte from 16 on is no state, as
+// 15 is none, and is looked up as 15. No branch depends on the entry: what tables hold follows no pattern.
 fn lanes_at(place: Place, t: u32, b: u8) -> u64
     requires { ⌜ place .tag < place .limit ⌝ }
     ensures { λ r. ⌜ r ≡ lookLanes place t b % 4294967296 + lookLanes place t b / 4294967296 * 65536 ⌝ }
@@ -52,15 +52,15 @@ fn entry_lanes(tags: &[u8], states: &[u8], words: &[u8], line: Line, k: usize) -
     lanes_at(line.place, entry::tag_at(tags, k), states[k])
 }
 
-// A number turned right by a place: its lowest bit becomes its highest.
-fn turned_right(x: u64) -> u64
+// A number rotated right by one bit: its lowest bit becomes its highest.
+fn rotated_right(x: u64) -> u64
     ensures { λ r. ⌜ r ≡ x / 2 + x % 2 * 2 ^ 63 ⌝ }
 {
     x / 2 + x % 2 * 9223372036854775808
 }
 
-// A number turned left by n places: its n highest bits become its lowest.
-fn turned_left(x: u64, n: usize) -> u64
+// A number rotated left by n bits: its n highest bits become its lowest.
+fn rotated_left(x: u64, n: usize) -> u64
     requires { ⌜ (0 < n) × (n < 64) ⌝ }
     ensures { λ r. ⌜ r ≡ x % 2 ^ (64 - n) * 2 ^ n + x / 2 ^ (64 - n) ⌝ }
 {
@@ -68,9 +68,8 @@ fn turned_left(x: u64, n: usize) -> u64
 }
 
 // Asks every port, in one pass. The number of the port's entry runs beside the port, from the index on: sets more for each port. What a port
-// says comes in at the lanes' lowest bits and is turned right by a place for it and for each port after it, and at the end back by as many
-// places as there are ports, so that port p's bit is bit p. No word is read: the words are lent so that what is said is said of the whole
-// tables.
+// says comes in at the lanes' lowest bits; all is rotated right by one bit for each port, and left at the end by as many bits as there are
+// ports, so that port p's bit is bit p. No word is read: the words are lent so that what is said is said of the whole tables.
 fn survey_ports(tags: &[u8], states: &[u8], words: &[u8], line: Line) -> Masks
     requires { ⌜ Filled (line .shape) (now tags) (now states) (now words) ⌝ }
     requires { ⌜ Placed line ⌝ }
@@ -79,16 +78,16 @@ fn survey_ports(tags: &[u8], states: &[u8], words: &[u8], line: Line) -> Masks
 {
     let sets = line.shape.sets;
     let ports = line.shape.ports;
-    let mut turned = 0u64;
+    let mut rotated = 0u64;
     let mut k = line.place.index;
     let mut p = 0usize;
     while p < ports {
         let seen = entry_lanes(tags, states, words, line, k);
-        turned = turned_right(turned + seen);
+        rotated = rotated_right(rotated + seen);
         k += sets;
         p += 1;
     }
-    let sum = turned_left(turned, ports);
+    let sum = rotated_left(rotated, ports);
     let holders = sum % 65536;
     let marked = sum / 65536;
     let owners = marked & holders;

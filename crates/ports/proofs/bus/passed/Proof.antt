@@ -1,10 +1,16 @@
 -- A port passed over, sets more: what is still to come and what is there make up the whole. Assumes nothing.
-use Prim.Native.Nat.{ℕ, _+_, _*_}
-use mathlib.Core.Path.{_≡_, refl, ap}
+use Prim.Native.Nat.{ℕ, _+_, _*_, _-_}
+use mathlib.Core.Path.{_≡_, refl, ap, _∙_}
+use native.Mathlib.Nat.{add-mul, one-mul}
 use native.Mathlib.Omega.{arith}
-use Rattle.ports.proofs.Places.{one-port-less}
 use Rattle.ports.proofs.bus.passed.Statement.{statement}
 use Rattle.ports.proofs.bus.passed.Tie as tie
+
+-- What n ports take of the tables, by one port less.
+one-port-less : {n : ℕ} → (n ≡ 0 → ⊥) → (sets : ℕ) → n * sets ≡ (n - 1) * sets + sets
+one-port-less {n} h sets =
+    let e : n ≡ n - 1 + 1 = omega (arith, h) in
+    ap (λ (x : ℕ). x * sets) e ∙ add-mul (n - 1) 1 sets ∙ ap (λ (x : ℕ). (n - 1) * sets + x) (one-mul sets)
 
 abbrev Inv-loop : tie.InvT-loop
 Inv-loop k sets ports at₀ left₀ at left = left * sets + at ≡ ports * sets + k

@@ -9,10 +9,10 @@ use Rattle.ports.proofs.survey.survey_ports.Statement.{statement}
 use Rattle.ports.proofs.survey.survey_ports.Tie as tie
 
 abbrev Inv-loop : tie.InvT-loop
-Inv-loop tags states words line sets ports turned₀ k₀ p₀ turned k p = Surveyed line (tablesIn (line .shape) tags states words) turned p k
+Inv-loop tags states words line sets ports rotated₀ k₀ p₀ rotated k p = Surveyed line (tablesIn (line .shape) tags states words) rotated p k
 
 abbrev μ-loop : tie.MeasureT-loop
-μ-loop tags states words line sets ports turned₀ k₀ p₀ turned k p = ports - p
+μ-loop tags states words line sets ports rotated₀ k₀ p₀ rotated k p = ports - p
 
 -- The start, seen from a turn.
 abbrev start : tie.In-loop Inv-loop μ-loop → tie.Start Inv-loop μ-loop
@@ -25,8 +25,8 @@ entry-lanes-requires : tie.Need-entry-lanes-requires Inv-loop μ-loop
 entry-lanes-requires c κs =
     (start c .pre .0, (start c .pre .1, running-there (start c .pre .1) (c .before .loop .inv .at) (c .loop-test .taken)))
 
-add-turned-right : tie.Need-add-turned-right Inv-loop μ-loop
-add-turned-right c =
+add-rotated-right : tie.Need-add-rotated-right Inv-loop μ-loop
+add-rotated-right c =
     let turn : tie.In-loop Inv-loop μ-loop = search in let said : tie.After-entry-lanes Inv-loop μ-loop = search in
     omega (arith, surveyed-fits _ (start turn .pre .1) _ _ _ (turn .before .loop .inv) (turn .loop-test .taken) (said .entry-lanes .ensures))
 
@@ -44,12 +44,12 @@ loop-less c = let turn : tie.In-loop Inv-loop μ-loop = search in omega (arith, 
 loop-again : tie.Need-loop-again Inv-loop μ-loop
 loop-again c =
     let turn : tie.In-loop Inv-loop μ-loop = search in let said : tie.After-entry-lanes Inv-loop μ-loop = search in
-    let right : tie.After-turned-right Inv-loop μ-loop = search in
+    let right : tie.After-rotated-right Inv-loop μ-loop = search in
     surveyed-more _ (start turn .pre .1) _ _ _ (turn .before .loop .inv) (turn .loop-test .taken) (said .entry-lanes .ensures)
-    (right .turned-right .ensures)
+    (right .rotated-right .ensures)
 
-turned-left-requires : tie.Need-turned-left-requires Inv-loop μ-loop
-turned-left-requires c κs =
+rotated-left-requires : tie.Need-rotated-left-requires Inv-loop μ-loop
+rotated-left-requires c κs =
     let begun : tie.Start Inv-loop μ-loop = search in
     (ports-some (begun .pre .1), omega (arith, few (begun .pre .1)))
 
@@ -59,5 +59,5 @@ returns c = search surveyed-done
 pub survey-ports-spec : {M : Type 1} → statement M
 survey-ports-spec =
     tie.close
-    (tie.spec Inv-loop μ-loop loop-holds entry-lanes-requires add-turned-right (λ c κs. search needs) add-k add-p loop-less loop-again
-    turned-left-requires returns)
+    (tie.spec Inv-loop μ-loop loop-holds entry-lanes-requires add-rotated-right (λ c κs. search needs) add-k add-p loop-less loop-again
+    rotated-left-requires returns)

@@ -1,7 +1,8 @@
 -- The tag by a shift, the index by the bits below it. Assumes nothing.
 use borrow.Author.Needs.{needs}
-use native.Mathlib.Nat.{mod-lt}
+use Prim.Native.Nat.{_-_}
 use native.Mathlib.Omega.{arith}
+use lib.Bits.{and-le-l}
 use Rattle.model.proofs.Lent.{some-sets}
 use Rattle.model.proofs.Bounds.{bounded, bits-below}
 use Rattle.model.proofs.shape.Shape.split.Statement.{statement}
@@ -18,9 +19,8 @@ add-t7 c =
 
 sub-t8 : tie.Need-sub-t8
 sub-t8 c =
-    let start : tie.Start = search in let by : tie.After-shift = search in
-    let n = start .args .self .sets in
-    omega (arith, bits-below (start .args .a) n _ (by .shift .ensures .0), mod-lt (start .args .a) (some-sets (start .args .self) (start .pre .0)))
+    let start : tie.Start = search in
+    omega (arith, and-le-l (start .args .a) (start .args .self .sets - 1), start .pre .1)
 
 returns : tie.Need-returns
 returns c =

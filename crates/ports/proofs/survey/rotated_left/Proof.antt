@@ -1,10 +1,10 @@
--- Places to the left, by two shifts. Assumes nothing.
+-- Rotated left, by two shifts. Assumes nothing.
 use borrow.Author.Needs.{needs}
 use Prim.Native.Nat.{_^_, _<_}
 use native.Mathlib.Omega.{arith}
-use Rattle.ports.proofs.Turns.{left-is, left-fits}
-use Rattle.ports.proofs.survey.turned_left.Statement.{statement}
-use Rattle.ports.proofs.survey.turned_left.Tie as tie
+use Rattle.ports.proofs.Rotations.{left-is, left-fits}
+use Rattle.ports.proofs.survey.rotated_left.Statement.{statement}
+use Rattle.ports.proofs.survey.rotated_left.Tie as tie
 
 add-result : tie.Need-add-result
 add-result c =
@@ -19,5 +19,5 @@ returns c =
     let a = start .args in
     rw (left-is (a .x) (a .n) (omega (arith, start .fits .x)) (start .pre .1))
 
-pub turned-left-spec : {M : Type 1} → statement M
-turned-left-spec = tie.close (tie.spec (λ c. search needs) (λ c. search needs) (λ c. search needs) add-result returns)
+pub rotated-left-spec : {M : Type 1} → statement M
+rotated-left-spec = tie.close (tie.spec (λ c. search needs) (λ c. search needs) (λ c. search needs) add-result returns)
