@@ -18,7 +18,7 @@ use Rattle.words.specs.Word.{merge}
 use Rattle.words.specs.Access.{effectAt}
 use Rattle.protocol.specs.Rules.{flushRule}
 use Rattle.words.proofs.Bools.{Is, and-none, by-bool}
-use Rattle.words.proofs.Effects.{write-effect, unwritten}
+use Rattle.words.proofs.Effects.{write-effect, unaltered}
 use Rattle.protocol.proofs.Kept.{flush-own, flush-bus, flush-stores, quiet-same, quiet-keeps}
 use Rattle.model.specs.declared.shape.Shape.{Shape}
 use Rattle.model.specs.declared.order.Call.{Call}
@@ -102,7 +102,7 @@ module _ (s : Shape) (t : Model) (f : Flat) (sim : Sim s t f) (a : ℕ) (line : 
       unfolding accessRule shared dirty
       access-line =
           access-good (s .ports) i (seen s t a) (wordAt s t a) (memoryAt t a) (wordIn f a) port (sim .good a line) (eff .outcome) m
-          (eff .word) _ _ _ (line-after s t i a ready port the-rule (eff .word)) (unwritten acc (wordIn f a))
+          (eff .word) _ _ _ (line-after s t i a ready port the-rule (eff .word)) (unaltered acc (wordIn f a))
 
       moves : Moved f (flatAccess f acc m a) eff m a
       moves = access-moves f m a acc

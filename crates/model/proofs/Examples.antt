@@ -1,8 +1,11 @@
--- The fourteen orders and the device writes, by computation. Assumes nothing.
+-- The fourteen orders, the device writes and the stores that leave the word as it was, by computation. Assumes nothing.
 use mathlib.Core.Path.{refl}
 use Rattle.model.specs.Fourteen.{table, twoPorts, start, played, FourteenHold}
 use Rattle.model.specs.DeviceWrites.{written, twoOwners, ownersWritten, ownersLeft, noState, noStateRefused, noHome, noHomeRefused}
 use Rattle.model.specs.DeviceWrites.{DeviceWritesHold}
+use Rattle.model.specs.Flat.{flatAccess, flatPerform, flatStep, flatStart}
+use Rattle.model.specs.Marks.{flatRun, modelRun}
+use Rattle.model.specs.SameStores.{exclusives, others, twoExclusives, beside, marking, SameStoresHold}
 use Rattle.model.proofs.Computing.{computing}
 
 pub fourteen-hold : FourteenHold
@@ -12,3 +15,7 @@ fourteen-hold = refl
 pub device-writes-hold : DeviceWritesHold
 unfolding computing twoPorts start played written twoOwners ownersWritten ownersLeft noState noStateRefused noHome noHomeRefused
 device-writes-hold = (refl, refl, refl, refl, refl)
+
+pub same-stores-hold : SameStoresHold
+unfolding computing twoPorts start played exclusives others twoExclusives beside marking flatAccess flatPerform flatStep flatStart flatRun modelRun
+same-stores-hold = (refl, refl, refl, refl, refl)

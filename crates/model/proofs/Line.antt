@@ -12,7 +12,7 @@ use Rattle.protocol.specs.declared.state.State.the-variants.{I}
 use Rattle.words.specs.declared.access.Outcome.{Outcome}
 use Rattle.protocol.specs.declared.rules.Rule.{Rule}
 use Rattle.protocol.specs.State.{valid, owner, isThrough}
-use Rattle.words.specs.Access.{writes}
+use Rattle.words.specs.Access.{writes, alters}
 use Rattle.protocol.specs.Rules.{rule, snooped, updates}
 use Rattle.words.proofs.Bools.{Is, mp, imp, and-l, and-r, both, contra, by-bool, by-cond}
 use Rattle.protocol.proofs.States.{owner-valid}
@@ -92,24 +92,24 @@ module _ (n i : ℕ) (st : ℕ → State) (wd : ℕ → ℕ) (mem w : ℕ) (insi
             ]
           ]
 
-      -- Another holder's word: the new one if it was handed on, and else nothing was written.
-      other-word : (Is (not (writes k)) → w′ ≡ w) → (q : ℕ) → q < n → q ≢ i → Is (valid (st′ q)) → wd′ q ≡ w′
+      -- Another holder's word: the new one if it was handed on, and else the word was not altered.
+      other-word : (Is (not (alters k)) → w′ ≡ w) → (q : ℕ) → q < n → q ≢ i → Is (valid (st′ q)) → wd′ q ≡ w′
       other-word same q h d v =
           let now : Is (valid (snooped (the-rule .bus) (st q))) = rw (after .others q h d) at v in
           after .words q h d v ∙
           by-cond (λ x. x ≡ w′) (updates (the-rule .bus)) w′ (wd q) (λ _. refl)
-          (λ g. good .words q h (mp (snooped-valid (the-rule .bus) (st q)) now) ∙ sym (same (contra (writes k)
+          (λ g. good .words q h (mp (snooped-valid (the-rule .bus) (st q)) now) ∙ sym (same (contra (alters k)
           (λ x. mp (mp (informed-kept k m (sharedBy st i n) (ownedBy st n) (st i) (st q)) (knows q h d)) (both x now)) g)))
 
-      words-after : (Is (not (writes k)) → w′ ≡ w) → (p : ℕ) → p < n → Is (valid (st′ p)) → wd′ p ≡ w′
+      words-after : (Is (not (alters k)) → w′ ≡ w) → (p : ℕ) → p < n → Is (valid (st′ p)) → wd′ p ≡ w′
       words-after same p h v = elim (ℕ-discrete p i) [ yes e ↦ rw e (after .word) | no d ↦ other-word same p h d v ]
 
       -- Nothing stored, and no owner left.
       was-clean : (t : State) → Is (known (sharedBy st i n) (ownedBy st n) (st i) t) → Is (not (the-rule .stores)) → Is (not (owner (the-rule .own)))
-          → Is (not (owner (snooped (the-rule .bus) t))) → Is (not (writes k) && not (owner (st i)) && not (owner t))
+          → Is (not (owner (snooped (the-rule .bus) t))) → Is (not (alters k) && not (owner (st i)) && not (owner t))
       was-clean t kn x y z = mp (mp (clean-kept k m (sharedBy st i n) (ownedBy st n) (st i) t) kn) (both (both x y) z)
 
-      clean-after : (Is (not (writes k)) → w′ ≡ w) → Unowned n st′ → mem′ ≡ w′
+      clean-after : (Is (not (alters k)) → w′ ≡ w) → Unowned n st′ → mem′ ≡ w′
       clean-after same u =
           by-bool (the-rule .stores) (after .stored)
           (λ x.
@@ -117,12 +117,12 @@ module _ (n i : ℕ) (st : ℕ → State) (wd : ℕ → ℕ) (mem w : ℕ) (insi
           let alone = was-clean I knows-none x y (rw (snooped-I (the-rule .bus)) refl) in
           after .unstored x ∙ good .clean (λ p h.
           elim (ℕ-discrete p i) [
-            | yes e ↦ rw e (and-r (not (writes k)) (not (owner (st i))) (and-l _ _ alone))
-            | no d ↦ and-r (not (writes k) && not (owner (st i))) _ (was-clean (st p) (knows p h d) x y (rw (after .others p h d) at (u p h)))
+            | yes e ↦ rw e (and-r (not (alters k)) (not (owner (st i))) (and-l _ _ alone))
+            | no d ↦ and-r (not (alters k) && not (owner (st i))) _ (was-clean (st p) (knows p h d) x y (rw (after .others p h d) at (u p h)))
           ])
-          ∙ sym (same (and-l (not (writes k)) (not (owner (st i))) (and-l _ _ alone))))
+          ∙ sym (same (and-l (not (alters k)) (not (owner (st i))) (and-l _ _ alone))))
 
-      pub access-good : (Is (not (writes k)) → w′ ≡ w) → Good n st′ wd′ mem′ w′
+      pub access-good : (Is (not (alters k)) → w′ ≡ w) → Good n st′ wd′ mem′ w′
       access-good same = record { words = words-after same; pairs = pairs-after; clean = clean-after same }
 
       pub access-ownerless : Is (isThrough m || not (writes k) && not (ownedBy st n)) → Unowned n st′

@@ -18,7 +18,7 @@ use Rattle.words.specs.Bools.{bit}
 use Rattle.words.specs.Word.{half}
 use Rattle.words.specs.Access.{effectAt, writes, isWrite}
 use Rattle.words.proofs.Bools.{Is, by-bool}
-use Rattle.words.proofs.Effects.{read-effect, write-effect, swap-succeeds, swap-fails}
+use Rattle.words.proofs.Effects.{read-effect, write-effect, swap-succeeds, swap-fails, write-writes}
 use Rattle.model.specs.declared.shape.Shape.{Shape}
 use Rattle.model.specs.declared.order.Call.the-variants.{ByPort, Flush, DeviceRead, DeviceWrite}
 use Rattle.model.specs.declared.order.Decoded.{Decoded}
@@ -41,9 +41,9 @@ fold old (e ∷ es) = fold (moved e old) es
 -- An access writes the word if it is a write, or a swap whose swapped number is 1.
 pub swapped-writes : (acc : Access) (w : ℕ) → writes (effectAt acc w .outcome) ≡ (isWrite acc || eqb (bit (effectAt acc w .swapped)) 1)
 swapped-writes Read w = rw (read-effect w)
-swapped-writes (Write mask x) w = rw (write-effect mask x w)
+swapped-writes (Write mask x) w = rw (write-effect mask x w) (search write-writes)
 swapped-writes (Swap mask x compare) w =
-    by-bool (eqb (half mask w) compare) (λ h. rw (swap-succeeds mask compare x w h)) (λ h. rw (swap-fails mask compare x w h))
+    by-bool (eqb (half mask w) compare) (λ h. rw (swap-succeeds mask compare x w h) (search write-writes)) (λ h. rw (swap-fails mask compare x w h))
 
 set-or : (b old : Bool) → (b || old) ≡ moved (cond b sets neither) old
 set-or true old = refl

@@ -18,7 +18,7 @@ use Rattle.protocol.specs.State.{isBack, isThrough}
 use Rattle.words.specs.Word.{half}
 use Rattle.words.specs.Access.{effectAt, writes}
 use Rattle.words.proofs.Bools.{Is, by-bool}
-use Rattle.words.proofs.Effects.{read-effect, write-effect, swap-succeeds, swap-fails}
+use Rattle.words.proofs.Effects.{read-effect, write-effect, swap-succeeds, swap-fails, write-writes}
 use Rattle.model.specs.declared.order.Call.the-variants.{DeviceWrite}
 use Rattle.model.specs.declared.order.Decoded.the-variants.{Asked}
 use Rattle.model.specs.Flat.{Flat, FlatAnswer, FlatResult, flatAnswer, wordIn, markIn, flatRead, flatWrite, flatAccess, flatPerform}
@@ -64,7 +64,7 @@ module _ (f : Flat) (m : Mode) (a : ℕ) where
     words-length = length-set (f .words) a _;
     marks-length = length-set (f .marks) a _;
     word = λ h. getD-set-same (f .words) a w 0 h ∙ sym ew;
-    mark = λ h. getD-set-same (f .marks) a (isBack m) false h ∙ rw ek (back-only (isBack m));
+    mark = λ h. getD-set-same (f .marks) a _ false h ∙ rw ek (back-only (isBack m));
     word-other = λ b d. getD-set-other (f .words) a b _ 0 d;
     mark-other = λ b d. getD-set-other (f .marks) a b _ false d;
   }
@@ -72,10 +72,10 @@ module _ (f : Flat) (m : Mode) (a : ℕ) where
   pub access-moves : (acc : Access) → Moved f (flatAccess f acc m a) (effectAt acc (wordIn f a)) m a
   unfolding flatAccess
   access-moves Read = rw (read-effect (wordIn f a)) (read-moves _ _ refl refl refl)
-  access-moves (Write mask x) = rw (write-effect mask x (wordIn f a)) (write-moves _ _ _ refl refl refl)
+  access-moves (Write mask x) = rw (write-effect mask x (wordIn f a)) (write-moves _ _ _ refl refl (search write-writes))
   access-moves (Swap mask x compare) =
       by-bool (eqb (half mask (wordIn f a)) compare)
-      (λ h. rw (swap-succeeds mask compare x (wordIn f a) h, h) (write-moves _ _ _ refl refl refl))
+      (λ h. rw (swap-succeeds mask compare x (wordIn f a) h, h) (write-moves _ _ _ refl refl (search write-writes)))
       (λ h. rw (swap-fails mask compare x (wordIn f a) h, not-true (eqb (half mask (wordIn f a)) compare) h) (read-moves _ _ refl refl refl))
 
 -- A device write moves it as a write-through write does.

@@ -1,5 +1,5 @@
--- Document 01's fourteen orders, as one table: the order, the five numbers, then the bytes of the states in which ports 0 and 1 see the
--- order's line, and the two memory words.
+-- Document 01's fourteen orders, as document 02's fourth request amends them (order 12 leaves the word as it was), as one table: the order,
+-- the five numbers, then the bytes of the states in which ports 0 and 1 see the order's line, and the two memory words.
 -- The proof is `fourteen-hold` in proofs/Examples.antt.
 use Prim.Native.Nat.{ℕ, _+_, _*_, _^_}
 use mathlib.Core.Path.{_≡_}
@@ -28,13 +28,13 @@ read port line m = order 0 m port 0 line 0 0
 abbrev pub write : ℕ → ℕ → Mode → ℕ → ℕ → Order
 write port line m mask x = order 1 m port mask line 0 x
 
-abbrev swap : ℕ → ℕ → Mode → ℕ → ℕ → ℕ → Order
+abbrev pub swap : ℕ → ℕ → Mode → ℕ → ℕ → ℕ → Order
 swap port line m mask compare x = order 2 m port mask line compare x
 
-abbrev flush : ℕ → ℕ → Order
+abbrev pub flush : ℕ → ℕ → Order
 flush port line = order 3 Through port 0 line 0 0
 
-abbrev deviceRead : ℕ → Order
+abbrev pub deviceRead : ℕ → Order
 deviceRead line = order 4 Through 0 0 line 0 0
 
 abbrev pub answer : ℕ → ℕ → ℕ → ℕ → ℕ → Answer
@@ -64,8 +64,8 @@ table =
     row (write 0 1 Through 0x01 0x1FF) (answer 0 0 0 1 2) 2 0 4 255 ∷
     row (flush 1 1) (answer 0 0 0 0 0) 2 0 4 255 ∷
     row (swap 1 1 Back 0xF0 1 0) (answer 0 255 0 1 0) 0 10 4 255 ∷
-    row (write 1 1 Back 0 0) (answer 0 0 0 0 0) 0 12 4 255 ∷
-    row (swap 0 1 Through 0xF0 1 0) (answer 0 255 0 0 1) 2 0 4 255 ∷
+    row (write 1 1 Back 0 0) (answer 0 0 0 0 0) 0 10 4 255 ∷
+    row (swap 0 1 Through 0xF0 1 0) (answer 0 255 0 1 0) 2 0 4 255 ∷
     row (read 2 0 Through) (answer 5 0 0 0 0) 0 0 4 255 ∷
     []
 

@@ -13,3 +13,4 @@ pub mod Marks
 pub mod Claims
 pub mod Fourteen
 pub mod DeviceWrites
+pub mod SameStores

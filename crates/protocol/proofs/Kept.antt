@@ -3,15 +3,16 @@ use mathlib.Core.Path.{_≡_, refl}
 use mathlib.Core.Bool.{Bool, false, _&&_, _||_, not}
 use Rattle.protocol.specs.declared.state.Mode.{Mode}
 use Rattle.protocol.specs.declared.state.State.{State}
-use Rattle.protocol.specs.declared.state.State.the-variants.{I}
+use Rattle.protocol.specs.declared.state.Mode.the-variants.{Through, Back}
+use Rattle.protocol.specs.declared.state.State.the-variants.{I, S, E, O, M}
 use Rattle.words.specs.declared.access.Outcome.{Outcome}
 use Rattle.protocol.specs.declared.rules.Bus.{Bus}
 use Rattle.protocol.specs.declared.rules.Bus.the-variants.{Quiet, Share, Update, Invalidate, ShareOwned}
 use Rattle.protocol.specs.declared.rules.Rule.{Rule}
 use Rattle.words.specs.Bools.{implies}
 use Rattle.protocol.specs.State.{valid, owner, exclusive, isO, modeOf, sameMode, isThrough}
-use Rattle.words.specs.Access.{writes}
-use Rattle.protocol.specs.Rules.{rule, flushRule, snooped, updates}
+use Rattle.words.specs.Access.{writes, alters}
+use Rattle.protocol.specs.Rules.{rule, flushRule, snooped, updates, RewritesSay}
 use Rattle.words.proofs.Bools.{Is}
 use Rattle.protocol.proofs.Finite.{forBools, forModes, forOutcomes, forStates, at-bool, at-mode, at-outcome, at-state, at-bus}
 
@@ -57,18 +58,18 @@ pub pairs-kept : Kept paired
 unfolding rule snooped everywhere
 pairs-kept = kept paired refl
 
--- A holder that stays through a write gets the new word.
+-- A holder that stays through a write that alters the word gets the new one.
 abbrev pub informed : Test
-informed k m dirty r s t u = implies (writes k && valid u) (updates (r .bus))
+informed k m dirty r s t u = implies (alters k && valid u) (updates (r .bus))
 
 pub informed-kept : Kept informed
 unfolding rule snooped updates everywhere
 informed-kept = kept informed refl
 
--- Where nothing is stored and no owner is left, nothing was written and there was no owner.
+-- Where nothing is stored and no owner is left, the word was not altered and there was no owner.
 abbrev pub clean : Test
 clean k m dirty r s t u =
-    implies (not (r .stores) && not (owner (r .own)) && not (owner u)) (not (writes k) && not (owner s) && not (owner t))
+    implies (not (r .stores) && not (owner (r .own)) && not (owner u)) (not (alters k) && not (owner s) && not (owner t))
 
 pub clean-kept : Kept clean
 unfolding rule snooped everywhere
@@ -81,6 +82,20 @@ ownerless k m dirty r s t u = implies (isThrough m || not (writes k) && not dirt
 pub ownerless-kept : Kept ownerless
 unfolding rule snooped everywhere
 ownerless-kept = kept ownerless refl
+
+-- What a rewrite does beside what a write does.
+pub rewrites-say : RewritesSay
+unfolding rule
+rewrites-say Through shared dirty I = refl
+rewrites-say Through shared dirty (S n) = refl
+rewrites-say Through shared dirty (E n) = refl
+rewrites-say Through shared dirty O = refl
+rewrites-say Through shared dirty M = refl
+rewrites-say Back shared dirty I = refl
+rewrites-say Back shared dirty (S n) = refl
+rewrites-say Back shared dirty (E n) = refl
+rewrites-say Back shared dirty O = refl
+rewrites-say Back shared dirty M = refl
 
 -- Two that are compatible are so after the same command.
 abbrev together : Bus → State → State → Bool

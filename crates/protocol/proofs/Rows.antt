@@ -11,7 +11,7 @@ use Rattle.protocol.specs.declared.state.Mode.the-variants.{Through, Bac
 use Rattle.protocol.specs.declared.state.State.{State}
 use Rattle.protocol.specs.declared.state.State.the-variants.{I, S, E, O, M}
 use Rattle.words.specs.declared.access.Outcome.{Outcome}
-use Rattle.words.specs.declared.access.Outcome.the-variants.{Reads, Fails, Writes}
+use Rattle.words.specs.declared.access.Outcome.the-variants.{Reads, Fails, Writes, Rewrites}
 use Rattle.protocol.specs.declared.rules.Bus.{Bus}
 use Rattle.protocol.specs.declared.rules.Bus.the-variants.{Quiet, Share, Update, Invalidate, ShareOwned}
 use Rattle.protocol.specs.declared.rules.Rule.{Rule}
@@ -55,6 +55,7 @@ unfolding outcomeAt
 outcome-at Reads = refl
 outcome-at Fails = refl
 outcome-at Writes = refl
+outcome-at Rewrites = refl
 
 mode-at : (m : Mode) → modeAt (modeNumber m) ≡ m
 unfolding modeAt

@@ -8,7 +8,7 @@ use Rattle.protocol.specs.declared.state.Mode.the-variants.{Through, Bac
 use Rattle.protocol.specs.declared.state.State.{State}
 use Rattle.protocol.specs.declared.state.State.the-variants.{I, S, E, O, M}
 use Rattle.words.specs.declared.access.Outcome.{Outcome}
-use Rattle.words.specs.declared.access.Outcome.the-variants.{Reads, Fails, Writes}
+use Rattle.words.specs.declared.access.Outcome.the-variants.{Reads, Fails, Writes, Rewrites}
 use Rattle.protocol.specs.declared.rules.Bus.{Bus}
 use Rattle.protocol.specs.declared.rules.Bus.the-variants.{Quiet, Share, Update, Invalidate, ShareOwned}
 use Rattle.protocol.specs.declared.rules.Rule.{Rule}
@@ -66,18 +66,19 @@ ownRow k m shared dirty = record {
   1 = packed (λ s. actNumber (rule k m shared dirty s));
 }
 
--- The number of a row: outcome, mode, shared and dirty, as the digits 0 to 2, 0 or 1, 0 or 1, 0 or 1; and what stands at a number.
+-- The number of a row: outcome, mode, shared and dirty, as the digits 0 to 3, 0 or 1, 0 or 1, 0 or 1; and what stands at a number.
 abbrev pub outcomeNumber : Outcome → ℕ
 outcomeNumber Reads = 0
 outcomeNumber Fails = 1
 outcomeNumber Writes = 2
+outcomeNumber Rewrites = 3
 
 abbrev pub modeNumber : Mode → ℕ
 modeNumber Through = 0
 modeNumber Back = 1
 
 unfoldable pub outcomeAt : ℕ → Outcome
-outcomeAt n = cond (eqb n 0) Reads (cond (eqb n 1) Fails Writes)
+outcomeAt n = cond (eqb n 0) Reads (cond (eqb n 1) Fails (cond (eqb n 2) Writes Rewrites))
 
 unfoldable pub modeAt : ℕ → Mode
 modeAt n = cond (eqb n 0) Through Back

@@ -1,15 +1,16 @@
 -- The two rule tables of a line: the port's own, and the snoop table of the other holders. No word, tag or address enters them.
+use mathlib.Core.Path.{_≡_}
 use mathlib.Core.Bool.{Bool, true, false, cond, _&&_}
 use Rattle.protocol.specs.declared.state.Mode.{Mode}
 use Rattle.protocol.specs.declared.state.Mode.the-variants.{Through, Back}
 use Rattle.protocol.specs.declared.state.State.{State}
 use Rattle.protocol.specs.declared.state.State.the-variants.{I, S, E, O, M}
 use Rattle.words.specs.declared.access.Outcome.{Outcome}
-use Rattle.words.specs.declared.access.Outcome.the-variants.{Reads, Fails, Writes}
+use Rattle.words.specs.declared.access.Outcome.the-variants.{Reads, Fails, Writes, Rewrites}
 use Rattle.protocol.specs.declared.rules.Bus.{Bus}
 use Rattle.protocol.specs.declared.rules.Bus.the-variants.{Quiet, Share, Update, Invalidate, ShareOwned}
 use Rattle.protocol.specs.declared.rules.Rule.{Rule}
-use Rattle.protocol.specs.State.{valid, owner, sameMode, modeOf, isBack, isThrough}
+use Rattle.protocol.specs.State.{valid, owner, isE, sameMode, modeOf, isBack, isThrough}
 
 -- A holder becomes S in the mode m.
 abbrev pub sharing : Mode → State → State
@@ -79,20 +80,42 @@ writeHit m shared M = ruled (alone m) Quiet (isThrough m)
 writeHit m shared (S n) = ruled (cond shared (among m) (alone m)) (Update m) (isThrough m)
 writeHit m shared O = ruled (cond shared (among m) (alone m)) (Update m) (isThrough m)
 
+-- A write hit, or a swap hit that succeeds, that leaves the word as it was: E stays E, in the mode of the access; any other state goes as
+-- where the word changes.
+abbrev pub rewriteHit : Mode → Bool → State → Rule
+rewriteHit m shared I = writeHit m shared I
+rewriteHit m shared (E n) = ruled (E m) Quiet (isThrough m)
+rewriteHit m shared M = writeHit m shared M
+rewriteHit m shared (S n) = writeHit m shared (S n)
+rewriteHit m shared O = writeHit m shared O
+
 abbrev pub hit : Outcome → Mode → Bool → Bool → State → Rule
 hit Reads m shared dirty s = readHit m dirty s
 hit Fails m shared dirty s = readHit m dirty s
 hit Writes m shared dirty s = writeHit m shared s
+hit Rewrites m shared dirty s = rewriteHit m shared s
+
+-- A write miss, or a swap miss that succeeds, also where the word stays as it was.
+abbrev pub writeMiss : Mode → Rule
+writeMiss m = ruled (alone m) Invalidate (isThrough m)
 
 -- A miss. The word comes from an owner where the line is dirty, else from memory.
 abbrev pub miss : Outcome → Mode → Bool → Bool → Rule
 miss Reads m shared dirty = ruled (cond shared (S m) (E m)) (cond (isBack m) ShareOwned (Share m)) (dirty && isThrough m)
-miss Writes m shared dirty = ruled (alone m) Invalidate (isThrough m)
+miss Writes m shared dirty = writeMiss m
+miss Rewrites m shared dirty = writeMiss m
 miss Fails m shared dirty = ruled (cond dirty (alone m) (E m)) Invalidate (dirty && isThrough m)
 
 -- The port's own table: the rule for a port that sees the line in the state s, I where its entry is of another line.
 unfoldable pub rule : Outcome → Mode → Bool → Bool → State → Rule
 rule k m shared dirty s = cond (valid s) (hit k m shared dirty s) (miss k m shared dirty)
+
+-- A rewrite in write back that hits E, of either mode, leaves write-back E, tells nobody and stores nothing; every other rewrite, a miss
+-- among them, does what a write does. The proof is `rewrites-say` in proofs/Kept.antt.
+abbrev pub RewritesSay : Type 0
+RewritesSay =
+    (m : Mode) (shared dirty : Bool) (s : State)
+    → rule Rewrites m shared dirty s ≡ cond (isBack m && isE s) (ruled (E Back) Quiet false) (rule Writes m shared dirty s)
 
 -- A flush by a holder: an owner's word is stored, and the entry becomes I.
 unfoldable pub flushRule : State → Rule

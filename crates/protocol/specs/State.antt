@@ -64,6 +64,13 @@ exclusive (E m) = true
 exclusive O = false
 exclusive M = true
 
+abbrev pub isE : State → Bool
+isE I = false
+isE (S m) = false
+isE (E m) = true
+isE O = false
+isE M = false
+
 abbrev pub isO : State → Bool
 isO I = false
 isO (S m) = false

@@ -39,7 +39,7 @@ pub struct Coded {
 pub struct Row(pub u64, pub u64);
 
 fn own_row(n: u8) -> Row
-    requires { ⌜ n < 24 ⌝ }
+    requires { ⌜ n < 32 ⌝ }
     ensures { λ r. ⌜ r ≡ ownRowAt n ⌝ }
 {
     match n {
@@ -66,7 +66,15 @@ fn own_row(n: u8) -> Row
         20 => Row(0xCCCC000000CCC, 0x0606000000061),
         21 => Row(0xCCCC000000CCC, 0x0606000000061),
         22 => Row(0xCBCB000000CBC, 0x0606000000061),
-        _ => Row(0xCBCB000000CBC, 0x0606000000061),
+        23 => Row(0xCBCB000000CBC, 0x0606000000061),
+        24 => Row(0x2222000000222, 0x8D8D0000008D9),
+        25 => Row(0x2222000000222, 0x8D8D0000008D9),
+        26 => Row(0x2121000000212, 0x8D8D0000008D9),
+        27 => Row(0x2121000000212, 0x8D8D0000008D9),
+        28 => Row(0xCCAC000000ACC, 0x0606000000061),
+        29 => Row(0xCCAC000000ACC, 0x0606000000061),
+        30 => Row(0xCBAB000000ABC, 0x0606000000061),
+        _ => Row(0xCBAB000000ABC, 0x0606000000061),
     }
 }
 
@@ -94,12 +102,13 @@ pub fn nibble(row: u64, s: u8) -> u8
 }
 
 fn outcome_number(k: Outcome) -> u8
-    ensures { λ r. ⌜ (r ≡ outcomeNumber k) × (r ≤ 2) ⌝ }
+    ensures { λ r. ⌜ (r ≡ outcomeNumber k) × (r ≤ 3) ⌝ }
 {
     match k {
         Outcome::Reads => 0,
         Outcome::Fails => 1,
         Outcome::Writes => 2,
+        Outcome::Rewrites => 3,
     }
 }
 

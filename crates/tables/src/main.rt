@@ -76,7 +76,8 @@ fn put_outcome(n: u8) {
     match n {
         0 => put(b"read         "),
         1 => put(b"failed-swap  "),
-        _ => put(b"write        "),
+        2 => put(b"write        "),
+        _ => put(b"rewrite      "),
     }
 }
 
@@ -91,7 +92,8 @@ fn outcome_at(n: u8) -> Outcome {
     match n {
         0 => Outcome::Reads,
         1 => Outcome::Fails,
-        _ => Outcome::Writes,
+        2 => Outcome::Writes,
+        _ => Outcome::Rewrites,
     }
 }
 
@@ -149,11 +151,12 @@ fn put_snoop(k: u8)
 
 fn own_heading() {
     put(
-        b"# What a port does. access: a write is also a swap that succeeds. shared: another port holds the line.\n",
+        b"# What a port does. access: a write is also a swap that succeeds; a rewrite is a write that leaves the line's word as it was.\n",
     );
     put(
-        b"# dirty: some port owns it. state: how the port sees the line, I where it misses. store: memory gets the line's word.\n",
+        b"# shared: another port holds the line. dirty: some port owns it. state: how the port sees the line, I where it misses.\n",
     );
+    put(b"# store: memory gets the line's word.\n");
     put(b"access       mode     shared dirty  state      next       bus             store\n");
 }
 
@@ -164,7 +167,7 @@ fn snoop_heading() {
 
 fn put_own_table() {
     let mut k: u8 = 0;
-    while k < 168 {
+    while k < 224 {
         put_own(k);
         k += 1;
     }

@@ -3,26 +3,27 @@ use Prim.Native.Nat.{ℕ}
 use mathlib.Core.Path.{_≡_, refl}
 use mathlib.Core.Bool.{Bool, true, false, cond, _&&_, _||_, not, false≢true}
 use lib.Dec.{eqb}
-use borrow.Author.Tests.{not-true}
+use borrow.Author.Tests.{not-true, eqb-true}
 use Rattle.words.specs.declared.access.Access.{Access}
 use Rattle.words.specs.declared.access.Access.the-variants.{Read, Write, Swap}
 use Rattle.words.specs.declared.access.Outcome.{Outcome}
-use Rattle.words.specs.declared.access.Outcome.the-variants.{Reads, Fails, Writes}
+use Rattle.words.specs.declared.access.Outcome.the-variants.{Reads, Fails, Writes, Rewrites}
 use Rattle.words.specs.declared.access.Effect.{Effect}
 use Rattle.words.specs.Word.{merge, half}
-use Rattle.words.specs.Access.{effect, effectAt, writes, isWrite, isSwap, maskOf, operandOf, compareOf, outcomeOf}
-use Rattle.words.proofs.Bools.{Is, by-bool, by-cond}
+use Rattle.words.specs.Access.{effect, sameWord, writeOutcome, effectAt, writes, alters, isWrite, isSwap, maskOf, operandOf, compareOf, outcomeOf}
+use Rattle.words.proofs.Bools.{Is, contra, by-bool, by-cond}
 
 pub read-effect : (w : ℕ) → effectAt Read w ≡ effect Reads w w false
 unfolding effectAt
 read-effect w = refl
 
-pub write-effect : (mask x w : ℕ) → effectAt (Write mask x) w ≡ effect Writes (merge mask w x) 0 false
+pub write-effect : (mask x w : ℕ) → effectAt (Write mask x) w ≡ effect (writeOutcome w (merge mask w x)) (merge mask w x) 0 false
 unfolding effectAt
 write-effect mask x w = refl
 
 -- A swap succeeds where the half compared is equal, and fails where it is not.
-pub swap-succeeds : (mask compare x w : ℕ) → Is (eqb (half mask w) compare) → effectAt (Swap mask x compare) w ≡ effect Writes (merge mask w x) w true
+pub swap-succeeds : (mask compare x w : ℕ) → Is (eqb (half mask w) compare)
+    → effectAt (Swap mask x compare) w ≡ effect (writeOutcome w (merge mask w x)) (merge mask w x) w true
 unfolding effectAt
 swap-succeeds mask compare x w h = rw h
 
@@ -30,20 +31,38 @@ pub swap-fails : (mask compare x w : ℕ) → Is (not (eqb (half mask w) compare
 unfolding effectAt
 swap-fails mask compare x w h = rw (not-true (eqb (half mask w) compare) h)
 
--- An access that does not write leaves the word.
-pub unwritten : (acc : Access) (w : ℕ) → Is (not (writes (effectAt acc w .outcome))) → effectAt acc w .word ≡ w
+-- Whether it changes the word or not, it is a write; and one that does not alter the word leaves it.
+pub write-writes : (before after : ℕ) → Is (writes (writeOutcome before after))
+write-writes before after = by-cond (λ k. Is (writes k)) (sameWord before after) Rewrites Writes (λ _. refl) (λ _. refl)
+
+write-unaltered : (before after : ℕ) → Is (not (alters (writeOutcome before after))) → after ≡ before
+write-unaltered before after =
+    by-cond (λ k. Is (not (alters k)) → after ≡ before) (sameWord before after) Rewrites Writes (λ e _. eqb-true after before e)
+    (λ _ h. absurd (false≢true h))
+
+-- An access that does not alter the word leaves it, and so does one that does not write.
+pub unaltered : (acc : Access) (w : ℕ) → Is (not (alters (effectAt acc w .outcome))) → effectAt acc w .word ≡ w
 unfolding effectAt
-unwritten Read w h = refl
-unwritten (Write mask x) w h = absurd (false≢true h)
-unwritten (Swap mask x compare) w h =
-    by-cond (λ (e : Effect). Is (not (writes (e .outcome))) → e .word ≡ w) (eqb (half mask w) compare)
-    (effect Writes (merge mask w x) w true) (effect Fails w w false) (λ _ h. absurd (false≢true h)) (λ _ _. refl) h
+unaltered Read w h = refl
+unaltered (Write mask x) w h = write-unaltered w (merge mask w x) h
+unaltered (Swap mask x compare) w h =
+    by-cond (λ (e : Effect). Is (not (alters (e .outcome))) → e .word ≡ w) (eqb (half mask w) compare)
+    (effect (writeOutcome w (merge mask w x)) (merge mask w x) w true) (effect Fails w w false) (λ _. write-unaltered w (merge mask w x)) (λ _ _. refl) h
+
+alters-writes : (k : Outcome) → Is (alters k) → Is (writes k)
+alters-writes Reads h = h
+alters-writes Fails h = h
+alters-writes Writes h = h
+alters-writes Rewrites h = refl
+
+pub unwritten : (acc : Access) (w : ℕ) → Is (not (writes (effectAt acc w .outcome))) → effectAt acc w .word ≡ w
+unwritten acc w h = unaltered acc w (contra (alters (effectAt acc w .outcome)) (alters-writes (effectAt acc w .outcome)) h)
 
 -- An effect put together from what is asked of the access, one by one.
 together : (a : Access) (w : ℕ)
     → let swapped = isSwap a && eqb (half (maskOf a) w) (compareOf a) in
-    effect (outcomeOf (isWrite a || swapped) (isSwap a)) (cond (isWrite a || swapped) (merge (maskOf a) w (operandOf a)) w) (cond (isWrite a) 0 w)
-    swapped ≡ effectAt a w
+    effect (outcomeOf (isWrite a || swapped) (sameWord w (merge (maskOf a) w (operandOf a))) (isSwap a))
+    (cond (isWrite a || swapped) (merge (maskOf a) w (operandOf a)) w) (cond (isWrite a) 0 w) swapped ≡ effectAt a w
 unfolding effectAt
 together Read w = refl
 together (Write mask x) w = refl
@@ -52,6 +71,7 @@ together (Swap mask x compare) w = by-bool (eqb (half mask w) compare) (λ h. rw
 pub effect-is : (a : Access) (w : ℕ) {mask half' compare operand full word value : ℕ} {write swap : Bool} {o : Outcome}
     → mask ≡ maskOf a → write ≡ isWrite a → swap ≡ isSwap a → half' ≡ half mask w → compare ≡ compareOf a
     → operand ≡ operandOf a → full ≡ merge mask w operand
-    → o ≡ outcomeOf (write || (swap && eqb half' compare)) swap → word ≡ cond (write || (swap && eqb half' compare)) full w → value ≡ cond write 0 w
+    → o ≡ outcomeOf (write || (swap && eqb half' compare)) (sameWord w full) swap
+    → word ≡ cond (write || (swap && eqb half' compare)) full w → value ≡ cond write 0 w
     → effect o word value (swap && eqb half' compare) ≡ effectAt a w
 effect-is a w p1 p2 p3 p4 p5 p6 p7 p8 p9 p10 = rw (p10, p9, p8, p7, p6, p5, p4, p3, p2, p1) (together a w)

@@ -5,24 +5,41 @@ use lib.Dec.{eqb}
 use Rattle.words.specs.declared.access.Access.{Access}
 use Rattle.words.specs.declared.access.Access.the-variants.{Read, Write, Swap}
 use Rattle.words.specs.declared.access.Outcome.{Outcome}
-use Rattle.words.specs.declared.access.Outcome.the-variants.{Reads, Fails, Writes}
+use Rattle.words.specs.declared.access.Outcome.the-variants.{Reads, Fails, Writes, Rewrites}
 use Rattle.words.specs.declared.access.Effect.{Effect}
 use Rattle.words.specs.Word.{merge, half}
 
 abbrev pub effect : Outcome → ℕ → ℕ → Bool → Effect
 effect o w v s = record { outcome = o; word = w; value = v; swapped = s }
 
+-- A write leaves the word as it was: the whole word after it is the whole word before.
+abbrev pub sameWord : ℕ → ℕ → Bool
+sameWord before after = eqb after before
+
+-- What a write comes to, or a swap that succeeds, by the word before and the word after.
+abbrev pub writeOutcome : ℕ → ℕ → Outcome
+writeOutcome before after = cond (sameWord before after) Rewrites Writes
+
 -- A read's value is the word, and a write's is 0. A swap's is the word before; it succeeds if the half compared is equal, and then merges.
 unfoldable pub effectAt : Access → ℕ → Effect
 effectAt Read w = effect Reads w w false
-effectAt (Write mask x) w = effect Writes (merge mask w x) 0 false
-effectAt (Swap mask x compare) w = cond (eqb (half mask w) compare) (effect Writes (merge mask w x) w true) (effect Fails w w false)
+effectAt (Write mask x) w = effect (writeOutcome w (merge mask w x)) (merge mask w x) 0 false
+effectAt (Swap mask x compare) w =
+    cond (eqb (half mask w) compare) (effect (writeOutcome w (merge mask w x)) (merge mask w x) w true) (effect Fails w w false)
 
 -- A write, or a swap that succeeds.
 abbrev pub writes : Outcome → Bool
 writes Reads = false
 writes Fails = false
 writes Writes = true
+writes Rewrites = true
+
+-- A write, or a swap that succeeds, that changes the word.
+abbrev pub alters : Outcome → Bool
+alters Reads = false
+alters Fails = false
+alters Writes = true
+alters Rewrites = false
 
 -- What is asked of an access, one by one. (The mark's sentence asks whether it is a write; the rest is the code's.) A read has the full mask,
 -- and 0 for operand and compare value: nothing comes of them.
@@ -51,6 +68,6 @@ compareOf Read = 0
 compareOf (Write mask x) = 0
 compareOf (Swap mask x compare) = compare
 
--- The outcome by whether the access writes and whether it is a swap.
-abbrev pub outcomeOf : Bool → Bool → Outcome
-outcomeOf writes swap = cond writes Writes (cond swap Fails Reads)
+-- The outcome by whether the access writes, whether the merge leaves the word as it was, and whether it is a swap.
+abbrev pub outcomeOf : Bool → Bool → Bool → Outcome
+outcomeOf writes same swap = cond writes (cond same Rewrites Writes) (cond swap Fails Reads)
