@@ -5,7 +5,7 @@ use Rattle.model.specs.DeviceWrites.{written, twoOwners, ownersWritten, 
 use Rattle.model.specs.DeviceWrites.{DeviceWritesHold}
 use Rattle.model.specs.Flat.{flatAccess, flatPerform, flatStep, flatStart}
 use Rattle.model.specs.Marks.{flatRun, modelRun}
-use Rattle.model.specs.SameStores.{exclusives, others, twoExclusives, beside, marking, SameStoresHold}
+use Rattle.model.specs.SameStores.{exclusives, others, stored, twoExclusives, beside, marking, SameStoresHold}
 use Rattle.model.proofs.Computing.{computing}
 
 pub fourteen-hold : FourteenHold
@@ -17,5 +17,5 @@ unfolding computing twoPorts start played written twoOwners ownersWritten owners
 device-writes-hold = (refl, refl, refl, refl, refl)
 
 pub same-stores-hold : SameStoresHold
-unfolding computing twoPorts start played exclusives others twoExclusives beside marking flatAccess flatPerform flatStep flatStart flatRun modelRun
-same-stores-hold = (refl, refl, refl, refl, refl)
+unfolding computing twoPorts start played exclusives others stored twoExclusives beside marking flatAccess flatPerform flatStep flatStart flatRun modelRun
+same-stores-hold = (refl, refl, refl, refl, refl, refl)

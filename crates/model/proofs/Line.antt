@@ -12,9 +12,10 @@ use Rattle.protocol.specs.declared.state.State.the-variants.{I}
 use Rattle.words.specs.declared.access.Outcome.{Outcome}
 use Rattle.protocol.specs.declared.rules.Rule.{Rule}
 use Rattle.protocol.specs.State.{valid, owner, isThrough}
-use Rattle.words.specs.Access.{writes, alters}
+use Rattle.words.specs.Access.{writes}
 use Rattle.protocol.specs.Rules.{rule, snooped, updates}
 use Rattle.words.proofs.Bools.{Is, mp, imp, and-l, and-r, both, contra, by-bool, by-cond}
+use Rattle.words.proofs.Effects.{alters}
 use Rattle.protocol.proofs.States.{owner-valid}
 use Rattle.model.specs.Below.{anyBelow, lowest, atOr}
 use Rattle.model.proofs.Below.{any-below, below-none, lowest-cases, lowest-gives}

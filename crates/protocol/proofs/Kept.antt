@@ -1,9 +1,10 @@
--- What the two rule tables keep, state by state: each fact is one test that is computed over all its cases. Assumes nothing.
+-- What the two rule tables keep, state by state: each fact is one test that is computed over all its cases, but for what rewrites do, which is an
+-- equation by cases. Assumes nothing.
 use mathlib.Core.Path.{_≡_, refl}
 use mathlib.Core.Bool.{Bool, false, _&&_, _||_, not}
 use Rattle.protocol.specs.declared.state.Mode.{Mode}
-use Rattle.protocol.specs.declared.state.State.{State}
 use Rattle.protocol.specs.declared.state.Mode.the-variants.{Through, Back}
+use Rattle.protocol.specs.declared.state.State.{State}
 use Rattle.protocol.specs.declared.state.State.the-variants.{I, S, E, O, M}
 use Rattle.words.specs.declared.access.Outcome.{Outcome}
 use Rattle.protocol.specs.declared.rules.Bus.{Bus}
@@ -11,9 +12,10 @@ use Rattle.protocol.specs.declared.rules.Bus.the-variants.{Quiet, Share,
 use Rattle.protocol.specs.declared.rules.Rule.{Rule}
 use Rattle.words.specs.Bools.{implies}
 use Rattle.protocol.specs.State.{valid, owner, exclusive, isO, modeOf, sameMode, isThrough}
-use Rattle.words.specs.Access.{writes, alters}
+use Rattle.words.specs.Access.{writes}
 use Rattle.protocol.specs.Rules.{rule, flushRule, snooped, updates, RewritesSay}
 use Rattle.words.proofs.Bools.{Is}
+use Rattle.words.proofs.Effects.{alters}
 use Rattle.protocol.proofs.Finite.{forBools, forModes, forOutcomes, forStates, at-bool, at-mode, at-outcome, at-state, at-bus}
 
 -- Two ports may hold one line in these states: equal modes, neither E nor M, and one O at most. A port in I goes with any.
@@ -86,16 +88,12 @@ ownerless-kept = kept ownerless refl
 -- What a rewrite does beside what a write does.
 pub rewrites-say : RewritesSay
 unfolding rule
-rewrites-say Through shared dirty I = refl
-rewrites-say Through shared dirty (S n) = refl
-rewrites-say Through shared dirty (E n) = refl
-rewrites-say Through shared dirty O = refl
-rewrites-say Through shared dirty M = refl
-rewrites-say Back shared dirty I = refl
-rewrites-say Back shared dirty (S n) = refl
-rewrites-say Back shared dirty (E n) = refl
-rewrites-say Back shared dirty O = refl
-rewrites-say Back shared dirty M = refl
+rewrites-say I m shared dirty = refl
+rewrites-say (S n) m shared dirty = refl
+rewrites-say (E n) Through shared dirty = refl
+rewrites-say (E n) Back shared dirty = refl
+rewrites-say O m shared dirty = refl
+rewrites-say M m shared dirty = refl
 
 -- Two that are compatible are so after the same command.
 abbrev together : Bus → State → State → Bool

@@ -47,7 +47,7 @@ updates ShareOwned = false
 abbrev pub ruled : State → Bus → Bool → Rule
 ruled s b x = record { own = s; bus = b; stores = x }
 
--- The only holder of a word that memory lacks: M; or, where memory gets it too, write-through E.
+-- The only holder of a word that memory may lack: M; or, where memory gets it too, write-through E.
 abbrev pub alone : Mode → State
 alone Back = M
 alone Through = E Through
@@ -80,8 +80,8 @@ writeHit m shared M = ruled (alone m) Quiet (isThrough m)
 writeHit m shared (S n) = ruled (cond shared (among m) (alone m)) (Update m) (isThrough m)
 writeHit m shared O = ruled (cond shared (among m) (alone m)) (Update m) (isThrough m)
 
--- A write hit, or a swap hit that succeeds, that leaves the word as it was: E stays E, in the mode of the access; any other state goes as
--- where the word changes.
+-- A write hit, or a swap hit that succeeds, that leaves the word as it was (a silent store): E stays E, in the mode of the access; any other
+-- state goes as where the word changes.
 abbrev pub rewriteHit : Mode → Bool → State → Rule
 rewriteHit m shared I = writeHit m shared I
 rewriteHit m shared (E n) = ruled (E m) Quiet (isThrough m)
@@ -114,8 +114,8 @@ rule k m shared dirty s = cond (valid s) (hit k m shared dirty s) (miss k m shar
 -- among them, does what a write does. The proof is `rewrites-say` in proofs/Kept.antt.
 abbrev pub RewritesSay : Type 0
 RewritesSay =
-    (m : Mode) (shared dirty : Bool) (s : State)
-    → rule Rewrites m shared dirty s ≡ cond (isBack m && isE s) (ruled (E Back) Quiet false) (rule Writes m shared dirty s)
+    (s : State) (m : Mode) (shared dirty : Bool)
+    → rule Rewrites m shared dirty s ≡ cond (isE s && isBack m) (ruled (E Back) Quiet false) (rule Writes m shared dirty s)
 
 -- A flush by a holder: an owner's word is stored, and the entry becomes I.
 unfoldable pub flushRule : State → Rule

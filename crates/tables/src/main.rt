@@ -151,7 +151,7 @@ fn put_snoop(k: u8)
 
 fn own_heading() {
     put(
-        b"# What a port does. access: a write is also a swap that succeeds; a rewrite is a write that leaves the line's word as it was.\n",
+        b"# What a port does. write: a write or a swap that succeeds, which changes the line's word. rewrite: one that leaves it as it was (a silent store).\n",
     );
     put(
         b"# shared: another port holds the line. dirty: some port owns it. state: how the port sees the line, I where it misses.\n",

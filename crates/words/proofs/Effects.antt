@@ -10,20 +10,19 @@ use Rattle.words.specs.declared.access.Outcome.{Outcome}
 use Rattle.words.specs.declared.access.Outcome.the-variants.{Reads, Fails, Writes, Rewrites}
 use Rattle.words.specs.declared.access.Effect.{Effect}
 use Rattle.words.specs.Word.{merge, half}
-use Rattle.words.specs.Access.{effect, sameWord, writeOutcome, effectAt, writes, alters, isWrite, isSwap, maskOf, operandOf, compareOf, outcomeOf}
+use Rattle.words.specs.Access.{effect, sameWord, writing, effectAt, writes, isWrite, isSwap, maskOf, operandOf, compareOf, outcomeOf}
 use Rattle.words.proofs.Bools.{Is, contra, by-bool, by-cond}
 
 pub read-effect : (w : ℕ) → effectAt Read w ≡ effect Reads w w false
 unfolding effectAt
 read-effect w = refl
 
-pub write-effect : (mask x w : ℕ) → effectAt (Write mask x) w ≡ effect (writeOutcome w (merge mask w x)) (merge mask w x) 0 false
+pub write-effect : (mask x w : ℕ) → effectAt (Write mask x) w ≡ writing w (merge mask w x) 0 false
 unfolding effectAt
 write-effect mask x w = refl
 
 -- A swap succeeds where the half compared is equal, and fails where it is not.
-pub swap-succeeds : (mask compare x w : ℕ) → Is (eqb (half mask w) compare)
-    → effectAt (Swap mask x compare) w ≡ effect (writeOutcome w (merge mask w x)) (merge mask w x) w true
+pub swap-succeeds : (mask compare x w : ℕ) → Is (eqb (half mask w) compare) → effectAt (Swap mask x compare) w ≡ writing w (merge mask w x) w true
 unfolding effectAt
 swap-succeeds mask compare x w h = rw h
 
@@ -31,12 +30,19 @@ pub swap-fails : (mask compare x w : ℕ) → Is (not (eqb (half mask w) compare
 unfolding effectAt
 swap-fails mask compare x w h = rw (not-true (eqb (half mask w) compare) h)
 
--- Whether it changes the word or not, it is a write; and one that does not alter the word leaves it.
-pub write-writes : (before after : ℕ) → Is (writes (writeOutcome before after))
-write-writes before after = by-cond (λ k. Is (writes k)) (sameWord before after) Rewrites Writes (λ _. refl) (λ _. refl)
+-- A write, or a swap that succeeds, that changes the word.
+abbrev pub alters : Outcome → Bool
+alters Reads = false
+alters Fails = false
+alters Writes = true
+alters Rewrites = false
 
-write-unaltered : (before after : ℕ) → Is (not (alters (writeOutcome before after))) → after ≡ before
-write-unaltered before after =
+-- A write that leaves the word as it was is a write too; and one that does not alter the word leaves it as it was.
+pub write-writes : (before after v : ℕ) (s : Bool) → Is (writes (writing before after v s .outcome))
+write-writes before after v s = by-cond (λ k. Is (writes k)) (sameWord before after) Rewrites Writes (λ _. refl) (λ _. refl)
+
+write-unaltered : (before after v : ℕ) (s : Bool) → Is (not (alters (writing before after v s .outcome))) → after ≡ before
+write-unaltered before after v s =
     by-cond (λ k. Is (not (alters k)) → after ≡ before) (sameWord before after) Rewrites Writes (λ e _. eqb-true after before e)
     (λ _ h. absurd (false≢true h))
 
@@ -44,10 +50,10 @@ write-unaltered before after =
 pub unaltered : (acc : Access) (w : ℕ) → Is (not (alters (effectAt acc w .outcome))) → effectAt acc w .word ≡ w
 unfolding effectAt
 unaltered Read w h = refl
-unaltered (Write mask x) w h = write-unaltered w (merge mask w x) h
+unaltered (Write mask x) w h = write-unaltered w (merge mask w x) 0 false h
 unaltered (Swap mask x compare) w h =
     by-cond (λ (e : Effect). Is (not (alters (e .outcome))) → e .word ≡ w) (eqb (half mask w) compare)
-    (effect (writeOutcome w (merge mask w x)) (merge mask w x) w true) (effect Fails w w false) (λ _. write-unaltered w (merge mask w x)) (λ _ _. refl) h
+    (writing w (merge mask w x) w true) (effect Fails w w false) (λ _. write-unaltered w (merge mask w x) w true) (λ _ _. refl) h
 
 alters-writes : (k : Outcome) → Is (alters k) → Is (writes k)
 alters-writes Reads h = h

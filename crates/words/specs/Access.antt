@@ -16,16 +16,19 @@ effect o w v s = record { outcome = o; word = w; value = v; swapped = s }
 abbrev pub sameWord : ℕ → ℕ → Bool
 sameWord before after = eqb after before
 
--- What a write comes to, or a swap that succeeds, by the word before and the word after.
-abbrev pub writeOutcome : ℕ → ℕ → Outcome
-writeOutcome before after = cond (sameWord before after) Rewrites Writes
+-- What a write comes to, or a swap that succeeds, by whether it leaves the word as it was.
+abbrev pub writeOutcome : Bool → Outcome
+writeOutcome same = cond same Rewrites Writes
+
+-- A write, or a swap that succeeds, of the word `after` over the word `before`, with the answer's value and swapped mark.
+abbrev pub writing : ℕ → ℕ → ℕ → Bool → Effect
+writing before after v s = effect (writeOutcome (sameWord before after)) after v s
 
 -- A read's value is the word, and a write's is 0. A swap's is the word before; it succeeds if the half compared is equal, and then merges.
 unfoldable pub effectAt : Access → ℕ → Effect
 effectAt Read w = effect Reads w w false
-effectAt (Write mask x) w = effect (writeOutcome w (merge mask w x)) (merge mask w x) 0 false
-effectAt (Swap mask x compare) w =
-    cond (eqb (half mask w) compare) (effect (writeOutcome w (merge mask w x)) (merge mask w x) w true) (effect Fails w w false)
+effectAt (Write mask x) w = writing w (merge mask w x) 0 false
+effectAt (Swap mask x compare) w = cond (eqb (half mask w) compare) (writing w (merge mask w x) w true) (effect Fails w w false)
 
 -- A write, or a swap that succeeds.
 abbrev pub writes : Outcome → Bool
@@ -33,13 +36,6 @@ writes Reads = false
 writes Fails = false
 writes Writes = true
 writes Rewrites = true
-
--- A write, or a swap that succeeds, that changes the word.
-abbrev pub alters : Outcome → Bool
-alters Reads = false
-alters Fails = false
-alters Writes = true
-alters Rewrites = false
 
 -- What is asked of an access, one by one. (The mark's sentence asks whether it is a write; the rest is the code's.) A read has the full mask,
 -- and 0 for operand and compare value: nothing comes of them.
@@ -70,4 +66,4 @@ compareOf (Swap mask x compare) = compare
 
 -- The outcome by whether the access writes, whether the merge leaves the word as it was, and whether it is a swap.
 abbrev pub outcomeOf : Bool → Bool → Bool → Outcome
-outcomeOf writes same swap = cond writes (cond same Rewrites Writes) (cond swap Fails Reads)
+outcomeOf writes same swap = cond writes (writeOutcome same) (cond swap Fails Reads)
