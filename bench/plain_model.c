@@ -166,10 +166,13 @@ static void read_hit(struct tables *t, struct order *o, int owned, uint64_t word
     t->states[entry] = o->mode ? S_BACK : S_THROUGH;
 }
 
-static void write_hit(struct tables *t, struct order *o, int shared, uint64_t word)
+/* The word before is merged. E whose word stays is clean still: in write back it becomes E and not M, by no jump. */
+static void write_hit(struct tables *t, struct order *o, int shared, uint64_t before)
 {
-    uint64_t entry = entry_of(t, o->port);
-    int alone = is_exclusive(t->states[entry]) || !shared;
+    uint64_t entry = entry_of(t, o->port), word = merge(before, o->operand, o->mask);
+    uint8_t state = t->states[entry];
+    int alone = is_exclusive(state) || !shared;
+    int clean = (state == E_THROUGH || state == E_BACK) & (word == before);
 
     if (!alone)
         tell_others(t, o->port, o->mode ? S_BACK : S_THROUGH, 1, word);
@@ -177,7 +180,7 @@ static void write_hit(struct tables *t, struct order *o, int shared, uint64_t wo
     if (!o->mode)
         store(t, o, t->line, word);
     if (alone)
-        t->states[entry] = o->mode ? M : E_THROUGH;
+        t->states[entry] = o->mode ? M - (M - E_BACK) * clean : E_THROUGH;
     else
         t->states[entry] = o->mode ? O : S_THROUGH;
 }
@@ -187,7 +190,7 @@ static void hit(struct tables *t, struct order *o, int shared, int owned)
     uint64_t word = get8(t->data + 8 * entry_of(t, o->port));
 
     if (writes_at(o, word))
-        write_hit(t, o, shared, merge(word, o->operand, o->mask));
+        write_hit(t, o, shared, word);
     else
         read_hit(t, o, owned, word);
 }

@@ -88,6 +88,11 @@ static inline int is_back(unsigned state)
     return state >= BACK_S;
 }
 
+static inline int is_e(unsigned state)
+{
+    return state == THROUGH_E || state == BACK_E;
+}
+
 static inline int is_alone(unsigned state)
 {
     return state == THROUGH_E || state == BACK_E || state == MODIFIED;
@@ -101,6 +106,12 @@ static inline unsigned shared_in(unsigned mode)
 static inline unsigned exclusive_in(unsigned mode)
 {
     return mode ? BACK_E : THROUGH_E;
+}
+
+/* What a write in write back leaves with the only holder: E if it is clean still, else M. Without a jump. */
+static inline unsigned written_back(int clean)
+{
+    return MODIFIED - (MODIFIED - BACK_E) * (unsigned)clean;
 }
 
 /* Refusals 2 and 3 of the shape and the four slices. */
@@ -251,16 +262,18 @@ static inline void read_hit(struct walk *w, size_t entry, unsigned state, uint64
     set_all(w, w->holders, shared_in(w->mode));
 }
 
-/* A write hit, or a swap hit that succeeds; word is the merged one. */
-static inline void write_hit(struct walk *w, size_t entry, unsigned state, uint64_t word)
+/* A write hit, or a swap hit that succeeds. E is clean still where the word is the one before. */
+static inline void write_hit(struct walk *w, size_t entry, unsigned state, uint64_t before)
 {
     unsigned others = w->holders & ~(1u << w->port);
+    uint64_t word = merge(before, w->operand, w->mask);
+    int clean = is_e(state) & (word == before);
 
     store64(w->data + 8 * entry, word);
     if (!w->mode)
         store_line(w, w->line, word);
     if (is_alone(state) || !others) {
-        w->states[entry] = w->mode ? MODIFIED : THROUGH_E;
+        w->states[entry] = (uint8_t)(w->mode ? written_back(clean) : THROUGH_E);
         return;
     }
     w->states[entry] = w->mode ? OWNED : THROUGH_S;
@@ -332,7 +345,7 @@ static inline void hit(struct walk *w, size_t entry)
     uint64_t word = load64(w->data + 8 * entry);
 
     if (does_write(w, word))
-        write_hit(w, entry, state, merge(word, w->operand, w->mask));
+        write_hit(w, entry, state, word);
     else
         read_hit(w, entry, state, word);
 }

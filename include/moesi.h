@@ -97,6 +97,26 @@
  * changes nothing: to be sure, flush the line from every port, or read it once in
  * write through from any port.
  *
+ * Stores that leave the word as it was
+ * ------------------------------------
+ *
+ * A write-back write, or a write-back swap that succeeds, on a line that the port
+ * holds in state E, of either mode, makes it M only if it changes the word. If the
+ * whole word of 64 bits is afterwards what it was before, the line is in
+ * write-back E (MOESI_BACK_EXCLUSIVE), and neither a flush nor an eviction stores
+ * it. In a model that passes the audit memory then has the word, and a device
+ * reads it right. So a polling loop that reads a flag which no other port uses, and
+ * writes what it read, makes no line dirty. Anywhere else such a store is like
+ * one that changes the word: where the port holds the line in S, O or M, in write
+ * through, and where it does not hold the line, which then ends in M in write back.
+ *
+ * The rule on what a device sees counts such a store as a write in write back all
+ * the same. It tells when a device is sure to read right, by the orders alone. Once
+ * the line was written in write back, and until its next write-through access or
+ * device write, it says nothing, and memory may have the word or not.
+ * moesi_model_clean looks: in a model that passes the audit it says 1 after such a
+ * store on E.
+ *
  * What a device writes
  * --------------------
  *

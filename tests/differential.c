@@ -40,7 +40,7 @@ struct literal {
     uint64_t memory[2];
 };
 
-/* Document 01's list, number by number. */
+/* Document 01's list, number by number, as order 4 of document 02 amends its orders 12 and 13. */
 static const struct literal fourteen[14] = {
     {0x0000000000000008, 0, {0, 5, 0, 1, 0}, {10, 0}, {5, 7}},
     {0x0000000000000018, 0, {0, 5, 0, 1, 0}, {9, 9}, {5, 7}},
@@ -53,8 +53,8 @@ static const struct literal fourteen[14] = {
     {0x0000000000010101, 0x1FF, {0, 0, 0, 1, 2}, {2, 0}, {4, 255}},
     {0x0000000000010013, 0, {0, 0, 0, 0, 0}, {2, 0}, {4, 255}},
     {0x000000010001F01A, 0, {0, 255, 0, 1, 0}, {0, 10}, {4, 255}},
-    {0x0000000000010019, 0, {0, 0, 0, 0, 0}, {0, 12}, {4, 255}},
-    {0x000000010001F002, 0, {0, 255, 0, 0, 1}, {2, 0}, {4, 255}},
+    {0x0000000000010019, 0, {0, 0, 0, 0, 0}, {0, 10}, {4, 255}},
+    {0x000000010001F002, 0, {0, 255, 0, 1, 0}, {2, 0}, {4, 255}},
     {0x0000000000000020, 0, {5, 0, 0, 0, 0}, {0, 0}, {4, 255}},
 };
 
@@ -87,7 +87,7 @@ static int is_as_listed(struct tester *tester, size_t k)
     if (!history_add(&tester->history, pair, fourteen[k].word, fourteen[k].operand))
         return 0;
     if (!is_literal(pair, &fourteen[k])) {
-        snprintf(pair->difference, sizeof pair->difference, "  order %zu is not as document 01 says\n", k + 1);
+        snprintf(pair->difference, sizeof pair->difference, "  order %zu is not as the documents say\n", k + 1);
         return 0;
     }
     return history_end(&tester->history, pair);
@@ -155,12 +155,12 @@ static void fill_words(struct second_model *model, int distinct)
         model->data[port] = distinct ? UINT64_C(0x1000000010) * (port + 1) : 7;
 }
 
-/* One order on the table in start. The table is lent anew for each order. */
-static int add_to_start(struct tester *tester, uint64_t word, uint64_t operand)
+int add_to_start(struct tester *tester, uint64_t word, uint64_t operand)
 {
     struct history *history = &tester->history;
 
     history->fresh = 0;
+    history->chosen = 1;
     history->audit_every = 100;
     tester->pair.second = history->start;
     pair_lend(&tester->pair, (unsigned)(word & 7));
@@ -168,12 +168,17 @@ static int add_to_start(struct tester *tester, uint64_t word, uint64_t operand)
     return history_add(history, &tester->pair, word, operand);
 }
 
-static int try_order(struct tester *tester, uint64_t word)
+static int try_with(struct tester *tester, uint64_t word, uint64_t operand)
 {
-    if (add_to_start(tester, word, UINT64_C(0x3333333322222222)))
+    if (add_to_start(tester, word, operand))
         return 1;
     history_print(&tester->history, &tester->pair);
     return 0;
+}
+
+static int try_order(struct tester *tester, uint64_t word)
+{
+    return try_with(tester, word, UINT64_C(0x3333333322222222));
 }
 
 static int try_swaps(struct tester *tester, unsigned port, unsigned line, unsigned mode)
@@ -191,6 +196,23 @@ static int try_swaps(struct tester *tester, unsigned port, unsigned line, unsign
     return try_order(tester, traffic_word(SECOND_SWAP, mode, port, 0xF0, line, 0xFFFFFFFF));
 }
 
+/* Stores of the word that the port would find: of no byte, of some and of all of them, by writes and by swaps; and of
+   all of it but the highest bit or the lowest. */
+static int try_same(struct tester *tester, unsigned port, unsigned line, unsigned mode)
+{
+    uint64_t word = second_meets(&tester->history.start, port, line).word;
+    uint64_t some = traffic_word(SECOND_WRITE, mode, port, 0x3C, line, 0);
+    uint64_t all = traffic_word(SECOND_WRITE, mode, port, 0xFF, line, 0);
+    uint64_t lower = traffic_word(SECOND_SWAP, mode, port, 0x0F, line, word & UINT64_C(0xFFFFFFFF));
+    uint64_t upper = traffic_word(SECOND_SWAP, mode, port, 0xF0, line, word >> 32);
+
+    return try_order(tester, traffic_word(SECOND_WRITE, mode, port, 0x00, line, 0)) &&
+           try_with(tester, some, word ^ UINT64_C(0xFF000000000000FF)) &&
+           try_with(tester, all, word) && try_with(tester, all, word ^ UINT64_C(1) << 63) &&
+           try_with(tester, lower, word) && try_with(tester, lower, word ^ 1) && try_with(tester, upper, word) &&
+           try_with(tester, upper, word ^ UINT64_C(1) << 63);
+}
+
 /* Every kind of order of a port, to a line, in a mode. */
 static int try_orders(struct tester *tester, unsigned port, unsigned line, unsigned mode)
 {
@@ -198,7 +220,7 @@ static int try_orders(struct tester *tester, unsigned port, unsigned line, unsig
            try_order(tester, traffic_word(SECOND_WRITE, mode, port, 0x3C, line, 0)) &&
            try_order(tester, traffic_word(SECOND_FLUSH, mode, port, 0, line, 0)) &&
            try_order(tester, traffic_word(SECOND_DEVICE_READ, mode, port, 0, line, 0)) &&
-           try_swaps(tester, port, line, mode);
+           try_swaps(tester, port, line, mode) && try_same(tester, port, line, mode);
 }
 
 /* Device writes of all bytes, of none and of some. What they ignore, port, mode and compare value, holds anything. */
@@ -306,15 +328,18 @@ int report_history(struct tester *tester)
     return 0;
 }
 
-/* Adds random orders to a history that has begun. */
-static int add_orders(struct tester *tester, size_t orders)
+int add_orders(struct tester *tester, size_t orders)
 {
     struct pair *pair = &tester->pair;
 
     for (size_t k = 0; k < orders; k++) {
-        uint64_t word = traffic_order(&tester->traffic, &tester->generator, &pair->second);
-        uint64_t operand = traffic_operand(&tester->traffic, &tester->generator);
+        uint64_t word, operand;
 
+        /* A long history changes its habits. */
+        if (k % 1000 == 999)
+            traffic_begin(&tester->traffic, &tester->generator, tester->traffic.shape);
+        word = traffic_order(&tester->traffic, &tester->generator, &pair->second);
+        operand = traffic_operand(&tester->traffic, &tester->generator, &pair->second, word);
         if (!history_add(&tester->history, pair, word, operand))
             return 0;
     }
@@ -393,12 +418,6 @@ static int noise(struct tester *tester, uint64_t run)
 
 /* Device writes, number by number, worked out by hand from documents 01 and 02. */
 
-struct entry {
-    unsigned state;
-    uint32_t tag;
-    uint64_t data;
-};
-
 /* An order at the shape 2/1/2, its answer, and every entry and word of memory after it. */
 struct device_literal {
     uint64_t word, operand;
@@ -465,8 +484,7 @@ static const struct device_literal device_list[] = {
 
 enum { DEVICE_ORDERS = sizeof device_list / sizeof device_list[0] };
 
-/* The lent bytes as numbers. */
-static const struct second_model *lent_numbers(const struct pair *pair)
+const struct second_model *lent_numbers(const struct pair *pair)
 {
     static struct second_model lent;
 
@@ -476,26 +494,32 @@ static const struct second_model *lent_numbers(const struct pair *pair)
     return &lent;
 }
 
-static int answer_is(const struct pair *pair, const struct second_answer *answer)
+int answer_is(const struct pair *pair, const struct second_answer *answer)
 {
     struct second_answer given = second_decode_answer(pair->slices[RESULT].bytes);
 
     return memcmp(&given, answer, sizeof given) == 0;
 }
 
-static int is_device_literal(const struct tester *tester, const struct device_literal *literal)
+int tables_are(const struct pair *pair, const struct entry entries[2], const uint64_t memory[2])
 {
-    const struct second_model *lent = lent_numbers(&tester->pair);
-    const struct flat_memory *flat = &tester->history.flat;
-    unsigned line = (unsigned)(literal->word >> 16 & 65535);
+    const struct second_model *lent = lent_numbers(pair);
 
     for (unsigned port = 0; port < 2; port++) {
-        const struct entry *entry = &literal->entries[port];
+        const struct entry *entry = &entries[port];
 
         if (lent->states[port] != entry->state || lent->tags[port] != entry->tag || lent->data[port] != entry->data)
             return 0;
     }
-    if (memcmp(lent->memory, literal->memory, sizeof literal->memory) != 0)
+    return lent->memory[0] == memory[0] && lent->memory[1] == memory[1];
+}
+
+static int is_device_literal(const struct tester *tester, const struct device_literal *literal)
+{
+    const struct flat_memory *flat = &tester->history.flat;
+    unsigned line = (unsigned)(literal->word >> 16 & 65535);
+
+    if (!tables_are(&tester->pair, literal->entries, literal->memory))
         return 0;
     /* The flat memory has the same word after a device write, under mark 0. */
     if ((literal->word & 7) == SECOND_DEVICE_WRITE && literal->answer.refusal == 0 &&
@@ -658,7 +682,7 @@ static int add_orders_beside(struct tester *tester, unsigned line)
 {
     for (unsigned k = generator_below(&tester->generator, 4); k > 0; k--) {
         uint64_t word = traffic_order(&tester->traffic, &tester->generator, &tester->pair.second);
-        uint64_t operand = traffic_operand(&tester->traffic, &tester->generator);
+        uint64_t operand = traffic_operand(&tester->traffic, &tester->generator, &tester->pair.second, word);
         unsigned kind = word & 7;
         int may_write = kind == SECOND_WRITE || kind == SECOND_SWAP || kind == SECOND_DEVICE_WRITE;
 
@@ -908,6 +932,8 @@ static const struct group groups[] = {
     {"shapes just out of range", shapes_with_their_lengths, 110, 0},
     {"device writes, number by number", device_numbers, 1 + DEVICE_CASES, 0},
     {"what a device wrote is read", device_fills, 1000, 1},
+    {"stores that store the same, number by number", stores_numbers, 2, 0},
+    {"stores on lines in every state, and polling loops", stores_in_histories, 3000, 1},
     {"totals, number by number", totals_numbers, 3, 0},
     {"totals are the sums over the answers", totals_histories, 2000, 1},
     {"records of any totals", totals_records, 12000, 1},
@@ -932,8 +958,7 @@ static int run_once(struct tester *tester, size_t number, uint64_t run)
     tester->history.totals = 0;
     if (groups[number].run(tester, run))
         return 1;
-    printf("  seed %" PRIu64 ", group %zu, run %" PRIu64 "; again: --seed %" PRIu64 " --group %zu --run %" PRIu64 "\n",
-           tester->seed, number, run, tester->seed, number, run);
+    printf("  again: --seed %" PRIu64 " --group '%s' --run %" PRIu64 "\n", tester->seed, groups[number].name, run);
     return 0;
 }
 
@@ -967,6 +992,61 @@ static int met_everything(const struct tally *tally)
     for (int k = 0; k < 3; k++)
         met = met && tally->device_writes[k] >= 100 && tally->device_masks[k] >= 100;
     return met && tally->device_ports_beyond >= 100;
+}
+
+/* Stores in a mode that met an own state: those that stored the same, or those that changed the word. */
+static uint64_t stores_met(const struct tally *tally, unsigned fresh, unsigned state, unsigned mode, unsigned changed)
+{
+    uint64_t met = 0;
+
+    for (unsigned k = 0; k < 2 * SECOND_OTHERS; k++)
+        met += tally->stores[fresh][state][k / 2][mode][k % 2][changed];
+    return met;
+}
+
+/* How often the rarest of these came up, on tables that random traffic was let loose on. */
+static uint64_t rarest_on_tables(const struct tally *tally)
+{
+    uint64_t rarest = UINT64_MAX;
+
+    for (unsigned k = 0; k < 4 * TALLY_STATES; k++) {
+        uint64_t met = stores_met(tally, 0, k / 4, k / 2 % 2, k % 2);
+
+        rarest = met < rarest ? met : rarest;
+    }
+    return rarest;
+}
+
+/* What other ports may have of a line beside an own state, from I to M, in a history from fresh: a bit each for
+   nothing, clean copies and an owner. */
+static const unsigned others_beside[TALLY_STATES] = {7, 3, 1, 7, 1, 3, 1};
+
+/* How often the rarest came up in histories from fresh, by what the others have too, and writes and swaps apart. */
+static uint64_t rarest_from_fresh(const struct tally *tally)
+{
+    uint64_t rarest = UINT64_MAX;
+
+    for (unsigned k = 0; k < 2 * TALLY_STATES * SECOND_OTHERS; k++) {
+        unsigned mode = k % 2, others = k / 2 % SECOND_OTHERS, state = k / 2 / SECOND_OTHERS;
+        const uint64_t *counts = &tally->stores[1][state][others][mode][0][0];
+
+        for (unsigned n = 0; others_beside[state] >> others & 1 && n < 4; n++)
+            rarest = counts[n] < rarest ? counts[n] : rarest;
+    }
+    return rarest;
+}
+
+/* Whether stores met everything, those that store the same and those that don't, the more often the longer the run; and
+   refused ones. Every small table is tried with each of them in a group of its own, which is not counted here. */
+static int met_all_stores(const struct tally *tally, uint64_t percent)
+{
+    int met = rarest_on_tables(tally) >= percent / 2 && rarest_from_fresh(tally) >= percent;
+
+    for (int refusal = 5; refusal <= 9; refusal++)
+        met = met && tally->same_refused[refusal] >= 5;
+    for (int k = 0; k < 3; k++)
+        met = met && tally->same_masks[k] >= 100;
+    return met;
 }
 
 /* Whether steps with a record met everything: each kind and refusal, each total at its limits, and other lengths. */
@@ -1026,6 +1106,29 @@ static void print_totals_tally(const struct tally *tally)
            tally->records_of_other_length, tally->answers_of_other_length, tally->nines_unanswered);
 }
 
+/* Stores that stored the same, by own state and mode; then how often the rarest came up, changed ones among them. */
+static void print_stores(const struct tally *tally, unsigned fresh, uint64_t rarest)
+{
+    printf("  stored the same %s, own state 0 1 2 9 10 11 12", fresh ? "from fresh" : "on other tables");
+    for (unsigned mode = 0; mode < 2; mode++) {
+        uint64_t same[TALLY_STATES];
+
+        for (unsigned state = 0; state < TALLY_STATES; state++)
+            same[state] = stores_met(tally, fresh, state, mode, 0);
+        print_numbers(mode ? ", back:" : ", through:", same, TALLY_STATES);
+    }
+    printf("; the rarest %" PRIu64 "\n", rarest);
+}
+
+static void print_stores_tally(const struct tally *tally)
+{
+    print_stores(tally, 1, rarest_from_fresh(tally));
+    print_stores(tally, 0, rarest_on_tables(tally));
+    print_numbers("  masks 0x00, 0xFF, others:", tally->same_masks, 3);
+    print_numbers("; refused 5 to 9:", tally->same_refused + 5, 5);
+    printf("\n");
+}
+
 static int run_all(struct tester *tester)
 {
     clock_t start = clock();
@@ -1034,12 +1137,14 @@ static int run_all(struct tester *tester)
     for (size_t number = tester->from; number < GROUPS && !(failed && tester->first); number++)
         failed += !run_group(tester, number);
     print_tally(&tester->pair.tally, (double)(clock() - start) / CLOCKS_PER_SEC);
+    print_stores_tally(&tester->pair.tally);
     print_totals_tally(&tester->pair.tally);
     /* A run of some of the groups need not meet everything. */
     if (failed || tester->from > 0)
         return !failed;
-    met = met_everything(&tester->pair.tally) && met_all_of_totals(&tester->pair.tally);
-    printf("%s %s: every refusal, count and verdict was met\n", met ? "ok" : "FAILED", tester->name);
+    met = met_everything(&tester->pair.tally) && met_all_stores(&tester->pair.tally, tester->percent) &&
+          met_all_of_totals(&tester->pair.tally);
+    printf("%s %s: every refusal, count, store and verdict was met\n", met ? "ok" : "FAILED", tester->name);
     return met;
 }
 
@@ -1048,14 +1153,25 @@ static int run_chosen(struct tester *tester)
     if (tester->group == GROUPS)
         return run_all(tester);
     if (tester->run == UINT64_MAX)
-        return run_group(tester, (size_t)tester->group);
-    return run_once(tester, (size_t)tester->group, tester->run);
+        return run_group(tester, tester->group);
+    return run_once(tester, tester->group, tester->run);
+}
+
+/* The number of the group of that name; GROUPS if there is none. */
+static size_t group_named(const char *name)
+{
+    size_t number = 0;
+
+    while (number < GROUPS && strcmp(groups[number].name, name) != 0)
+        number++;
+    return number;
 }
 
 /* Takes one option with its value; 0 if there is no such option. */
 static int take_option(struct tester *tester, const char *option, const char *value)
 {
     uint64_t number = strtoull(value, NULL, 10);
+    size_t group = group_named(value);
 
     if (strcmp(option, "--name") == 0)
         tester->name = value;
@@ -1063,10 +1179,10 @@ static int take_option(struct tester *tester, const char *option, const char *va
         tester->seed = number;
     else if (strcmp(option, "--percent") == 0 && number > 0)
         tester->percent = number;
-    else if (strcmp(option, "--group") == 0 && number < GROUPS)
-        tester->group = number;
-    else if (strcmp(option, "--from") == 0 && number < GROUPS)
-        tester->from = number;
+    else if (strcmp(option, "--group") == 0 && group < GROUPS)
+        tester->group = group;
+    else if (strcmp(option, "--from") == 0 && group < GROUPS)
+        tester->from = group;
     else if (strcmp(option, "--run") == 0)
         tester->run = number;
     else if (strcmp(option, "--first") == 0)
@@ -1086,7 +1202,7 @@ int main(int argc, char **argv)
     for (int k = 1; fine && k < argc; k += 2)
         fine = take_option(&tester, argv[k], argv[k + 1]);
     if (!fine) {
-        fprintf(stderr, "differential [--name NAME] [--seed N] [--percent N] [--group N] [--from N] [--run N] "
+        fprintf(stderr, "differential [--name NAME] [--seed N] [--percent N] [--group NAME] [--from NAME] [--run N] "
                         "[--first 1] [--exact 1]\n");
         return 2;
     }

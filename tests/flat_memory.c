@@ -1,4 +1,4 @@
-/* The flat memory: document 01's section of that name and 02's clause on it, a branch per sentence. */
+/* The flat memory: document 01's section of that name and 02's clauses on it, a branch per sentence. */
 
 #include "flat_memory.h"
 
@@ -19,7 +19,8 @@ static void flat_read(struct flat_memory *flat, struct second_order order, struc
         flat->marks[order.line] = 0;
 }
 
-/* "Write: merge into F[a], mark becomes m." */
+/* "Write: merge into F[a], mark becomes m." Of one that leaves the word as it was order 4 says: "the flat mark is still
+   set by such a write". */
 static void flat_write(struct flat_memory *flat, struct second_order order)
 {
     flat->words[order.line] = second_merge(flat->words[order.line], order.operand, order.mask);

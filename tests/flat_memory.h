@@ -5,6 +5,7 @@
 
 #include "second_model.h"
 
+/* Under mark 0 memory has the line's word. Mark 1 says only that it may lack it: there need not be an owner. */
 struct flat_memory {
     struct second_shape shape;
     uint64_t words[SECOND_MAX_LINES];

@@ -45,6 +45,7 @@ static void begin_totals(struct history *history, struct pair *pair)
 int history_begin(struct history *history, struct pair *pair)
 {
     history->count = 0;
+    history->chosen = 0;
     pair->second = history->start;
     pair_lend(pair, history->skew);
     if (history->totals)
@@ -106,6 +107,32 @@ static void count_device_write(struct pair *pair, struct history_order order, un
     tally->device_ports_beyond += fields.port >= pair->second.shape.ports;
 }
 
+/* What an order by a port meets. One that names no port or no line is looked at as if it named another. */
+static struct second_met met_by(const struct pair *pair, struct second_order order)
+{
+    const struct second_shape *shape = &pair->second.shape;
+
+    return second_meets(&pair->second, order.port % (unsigned)shape->ports, order.line % (unsigned)shape->lines);
+}
+
+/* Counts a write or a swap that succeeds, or that would if it were not refused, by what it met. */
+static void count_store(struct pair *pair, struct second_order order, struct second_met met, int fresh)
+{
+    struct tally *tally = &pair->tally;
+    int swap = order.kind == SECOND_SWAP, changed = second_merge_changes(met.word, order.operand, order.mask);
+    unsigned state = met.state < 9 ? met.state : met.state - 6u;
+
+    if (order.kind != SECOND_WRITE && !(swap && second_swap_succeeds(order, met.word)))
+        return;
+    if (pair->expected.refusal != 0) {
+        tally->same_refused[pair->expected.refusal] += !changed;
+        return;
+    }
+    tally->stores[fresh][state][met.others][order.mode][swap][changed]++;
+    if (!changed)
+        tally->same_masks[order.mask == 0x00 ? 0 : order.mask == 0xFF ? 1 : 2]++;
+}
+
 /* Holds the answer of the step just made against the flat memory's. */
 static int agrees_with_flat(struct history *history, struct pair *pair, struct history_order order)
 {
@@ -130,7 +157,9 @@ static int agrees_with_flat(struct history *history, struct pair *pair, struct h
 int history_add(struct history *history, struct pair *pair, uint64_t word, uint64_t operand)
 {
     struct history_order order = {word, operand};
-    unsigned holders = second_holders(&pair->second, second_take_apart(word, operand).line);
+    struct second_order fields = second_take_apart(word, operand);
+    unsigned holders = second_holders(&pair->second, fields.line);
+    struct second_met met = met_by(pair, fields);
 
     if (history->count < history->room)
         history->orders[history->count] = order;
@@ -145,6 +174,8 @@ int history_add(struct history *history, struct pair *pair, uint64_t word, uint6
         return 0;
     if (history->fresh && pair->expected.refusal == 0 && (word & 7) == SECOND_DEVICE_WRITE)
         count_device_write(pair, order, holders);
+    if (!history->chosen)
+        count_store(pair, fields, met, history->fresh);
     return history->count % history->audit_every != 0 || audit(history, pair);
 }
 

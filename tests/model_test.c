@@ -201,8 +201,8 @@ static void start(struct both *both, struct shape shape)
     compare(both);
 }
 
-/* One order both ways, through the struct m. */
-static void step(struct both *both, struct moesi_model *m, uint64_t word, uint64_t operand)
+/* One order both ways, through the struct m; its answer. */
+static struct moesi_answer step(struct both *both, struct moesi_model *m, uint64_t word, uint64_t operand)
 {
     uint8_t bytes[40];
     struct moesi_answer answer = moesi_model_step(m, word, operand);
@@ -218,6 +218,7 @@ static void step(struct both *both, struct moesi_model *m, uint64_t word, uint64
     compare(both);
     refusals_seen[refusal < 9 ? refusal : 0]++;
     swaps_seen += (unsigned)answer.swapped;
+    return answer;
 }
 
 /* A record twice: as it is lent to the struct, between guard bytes, and as it is lent to the call. */
@@ -446,6 +447,90 @@ static void look_at_damage(const struct both *both, const struct moesi_model *m)
 }
 
 static struct both first, second;
+
+/* An order of a list from fresh, at two ports, one set, two lines and memory 5 and 7: its answer, and afterwards the
+   states of its line at both ports, whether the line is clean, and memory. */
+struct listed {
+    uint64_t word, operand;
+    struct moesi_answer answer;
+    uint8_t states[2];
+    int clean;
+    uint64_t memory[2];
+};
+
+/* Document 01's fourteen orders, as order 4 of document 02 amends orders 12 and 13. */
+static const struct listed fourteen[] = {
+    {0x08, 0, {0, 5, 0, 1, 0}, {10, 0}, 1, {5, 7}},
+    {0x18, 0, {0, 5, 0, 1, 0}, {9, 9}, 1, {5, 7}},
+    {0xFF19, 9, {0, 0, 0, 0, 0}, {9, 11}, 0, {5, 7}},
+    {0x04, 0, {0, 5, 0, 1, 0}, {9, 11}, 0, {5, 7}},
+    {0x00, 0, {0, 9, 0, 0, 1}, {1, 1}, 1, {9, 7}},
+    {0x04, 0, {0, 9, 0, 1, 0}, {1, 1}, 1, {9, 7}},
+    {UINT64_C(0x0000000900000F0A), 4, {0, 9, 1, 0, 0}, {11, 9}, 0, {9, 7}},
+    {UINT64_C(0x0000000900000F1A), 0, {0, 4, 0, 0, 0}, {11, 9}, 0, {9, 7}},
+    {0x10101, 0x1FF, {0, 0, 0, 1, 2}, {2, 0}, 1, {4, 255}},
+    {0x10013, 0, {0, 0, 0, 0, 0}, {2, 0}, 1, {4, 255}},
+    {UINT64_C(0x000000010001F01A), 0, {0, 255, 0, 1, 0}, {0, 10}, 1, {4, 255}},
+    {0x10019, 0, {0, 0, 0, 0, 0}, {0, 10}, 1, {4, 255}},
+    {UINT64_C(0x000000010001F002), 0, {0, 255, 0, 1, 0}, {2, 0}, 1, {4, 255}},
+    {0x20, 0, {5, 0, 0, 0, 0}, {0, 0}, 1, {4, 255}},
+};
+
+/* Stores that store the same, and some that don't. */
+static const struct listed stores[] = {
+    /* On E in write back: E, and a flush stores nothing. */
+    {0x08, 0, {0, 5, 0, 1, 0}, {10, 0}, 1, {5, 7}},
+    {0xFF09, 5, {0, 0, 0, 0, 0}, {10, 0}, 1, {5, 7}},
+    {0x0109, 0xFF05, {0, 0, 0, 0, 0}, {10, 0}, 1, {5, 7}},
+    {UINT64_C(0x0000000500000F0A), 5, {0, 5, 1, 0, 0}, {10, 0}, 1, {5, 7}},
+    {0x03, 0, {0, 0, 0, 0, 0}, {0, 0}, 1, {5, 7}},
+    /* A miss: M, which stays M, and the flush stores. */
+    {0xFF09, 5, {0, 0, 0, 1, 0}, {12, 0}, 1, {5, 7}},
+    {0xFF09, 5, {0, 0, 0, 0, 0}, {12, 0}, 1, {5, 7}},
+    {0x03, 0, {0, 0, 0, 0, 1}, {0, 0}, 1, {5, 7}},
+    /* On E in write through: a store in write through leaves it, one in write back turns its mode. */
+    {0x00, 0, {0, 5, 0, 1, 0}, {2, 0}, 1, {5, 7}},
+    {0x0001, 9, {0, 0, 0, 0, 1}, {2, 0}, 1, {5, 7}},
+    {0x0009, 9, {0, 0, 0, 0, 0}, {10, 0}, 1, {5, 7}},
+    /* The highest byte is another one: M, and the line isn't clean. */
+    {0x8009, UINT64_C(0x0100000000000000), {0, 0, 0, 0, 0}, {12, 0}, 0, {5, 7}},
+    {0x8009, 0, {0, 0, 0, 0, 0}, {12, 0}, 1, {5, 7}},
+    /* Shared: O at who stores, S at the other. */
+    {0x18, 0, {0, 5, 0, 0, 0}, {11, 9}, 1, {5, 7}},
+    {0x0019, 0, {0, 0, 0, 0, 0}, {9, 11}, 1, {5, 7}},
+};
+
+/* Carries a list out and holds the struct's answers and looks against it. */
+static void run_list(const struct listed *list, size_t count)
+{
+    static const struct shape shape = {2, 1, 2};
+
+    start(&first, shape);
+    for (size_t line = 0; line < 2 && !failures; line++) {
+        moesi_put_word(first.m.memory, line, 5 + 2 * line);
+        moesi_put_word(first.memory, line, 5 + 2 * line);
+    }
+    for (size_t k = 0; k < count && !failures; k++) {
+        const struct listed *due = &list[k];
+        uint64_t line = due->word >> 16 & 65535;
+        struct moesi_answer answer = step(&first, &first.m, due->word, due->operand);
+
+        CHECK(memcmp(&answer, &due->answer, sizeof answer) == 0);
+        CHECK(moesi_model_state(&first.m, 0, line) == due->states[0]);
+        CHECK(moesi_model_state(&first.m, 1, line) == due->states[1]);
+        CHECK(moesi_model_clean(&first.m, line) == due->clean && moesi_model_passes(&first.m) == 1);
+        CHECK(moesi_get_word(first.m.memory, 0) == due->memory[0]);
+        CHECK(moesi_get_word(first.m.memory, 1) == due->memory[1]);
+        if (failures)
+            printf("  order %zu of the list\n", k + 1);
+    }
+}
+
+static void check_lists(void)
+{
+    run_list(fourteen, sizeof fourteen / sizeof fourteen[0]);
+    run_list(stores, sizeof stores / sizeof stores[0]);
+}
 
 /* Many orders at each shape, and looks between them: every model passes the audit, and every state comes up. */
 static void check_orders(void)
@@ -846,8 +931,9 @@ static void check_seen(void)
 int main(void)
 {
     static void (*const checks[])(void) = {
-        check_sizes,  check_tags,   check_names,         check_refusals, check_zeros_with_record, check_totals,
-        check_orders, check_copies, check_device_writes, check_damage,   check_seen,              check_zeros,
+        check_sizes, check_tags,   check_names,  check_refusals,      check_zeros_with_record, check_totals,
+        check_lists, check_orders, check_copies, check_device_writes, check_damage,            check_seen,
+        check_zeros,
     };
 
     /* A group that fails is the last one: the others use what it found broken. */

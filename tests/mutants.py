@@ -1,8 +1,60 @@
 #!/usr/bin/env python3
-"""Wrong versions of the models, the two programs and the header, which the tests have to catch, into a folder."""
+"""Wrong versions of the models, the flat memory, the two programs and the header, into a folder: tests catch them."""
 
 import pathlib
 import sys
+
+# Where a store finds out that it stores the same, in the walking model and in the second model.
+CLEAN = "    int clean = is_e(state) & (word == before);\n"
+WRITTEN = "        w->states[entry] = (uint8_t)(w->mode ? written_back(clean) : THROUGH_E);\n"
+ALONE = "    if (is_alone(state) || !others) {\n"
+SHARED = "    w->states[entry] = w->mode ? OWNED : THROUGH_S;\n"
+MISSED = "        word = merge(word, w->operand, w->mask);\n        state = w->mode ? MODIFIED : THROUGH_E;\n"
+WRITE_HIT = "    if (does_write(w, word))\n        write_hit(w, entry, state, word);\n"
+NOT_WRITTEN = "        read_hit(w, entry, state, word);\n"
+INVALIDATED = ("        if (!w->mode)\n            store_line(w, w->line, word);\n        set_all(w, w->holders, INVALID);\n"
+               "    } else if")
+SECOND_CLEAN = "    if (own->status.letter == 'E' && order.mode == SECOND_BACK && !changed) {\n"
+SECOND_SHARED = ("    for (unsigned k = 0; k < holding->count; k++) {\n"
+                 "        holding->holders[k].word = merged;\n")
+SECOND_MISSED = ("    all_become_invalid(others);\n"
+                 "    own->word = second_merge(own->word, order.operand, order.mask);\n"
+                 "    if (order.mode == SECOND_BACK) {\n        become(own, 'M', SECOND_BACK);\n")
+SECOND_WRITE_HIT = "    if (see_word(order, own->word, answer))\n        write_hit("
+SECOND_NOT_WRITTEN = "        read_hit(model, holding, own, order.mode, answer);\n    put_holders_back"
+
+
+def clean(condition):
+    """A hit in write back by the only holder leaves E under another condition."""
+    return CLEAN.replace("is_e(state) & (word == before)", condition)
+
+
+def second_clean(condition):
+    """The same in the second model."""
+    return f"    if (order.mode == SECOND_BACK && {condition}) {{\n        own->word = merged;\n"
+
+
+def missed(condition):
+    """A miss in write back leaves E under a condition; found is the word that it finds."""
+    return MISSED.replace("        word", "        uint64_t found = word;\n\n        word", 1).replace(
+        "MODIFIED", f"written_back({condition})")
+
+
+def second_missed(condition):
+    """The same in the second model."""
+    return ("    int owned = lowest_owner(others) != NULL;\n"
+            "    int changed = second_merge_changes(own->word, order.operand, order.mask);\n\n"
+            + SECOND_MISSED.replace("'M'", f"{condition} ? 'E' : 'M'"))
+
+
+# Slips of such stores that stand in several of the lists below.
+SAME_IS_READ = (WRITE_HIT, WRITE_HIT.replace("word))", "word) && merge(word, w->operand, w->mask) != word)", 1))
+SECOND_SAME_IS_READ = (SECOND_WRITE_HIT, SECOND_WRITE_HIT.replace(
+    "answer))", "answer) && second_merge_changes(own->word, order.operand, order.mask))", 1))
+COPIES_LEFT = (MISSED + INVALIDATED, missed("0") + INVALIDATED.replace(
+    "        set_all", "        if (word != found)\n            set_all"))
+SECOND_COPIES_LEFT = (SECOND_MISSED, "    if (second_merge_changes(own->word, order.operand, order.mask))\n    " + SECOND_MISSED)
+
 
 # Name, the text to find (it must occur exactly once), the text in its place.
 WALKING = [
@@ -286,6 +338,115 @@ WALKING = [
     ("a device write that finds its compare value is a swap",
      "merge(fetch(w), w->operand, w->mask));\n",
      "merge(fetch(w), w->operand, w->mask));\n    w->swapped = w->compare == 0;\n"),
+    # Stores that store the same: when a hit leaves E, and which.
+    ("a store of the same on E ends in M", CLEAN, clean("0")),
+    ("a store that changes E leaves it E", CLEAN, clean("is_e(state)")),
+    ("a store of the same on write-through E ends in M", CLEAN, clean("(state == BACK_E) & (word == before)")),
+    ("a store of the same on write-back E ends in M", CLEAN, clean("(state == THROUGH_E) & (word == before)")),
+    ("a store of the same on write-through E leaves write-through E",
+     WRITTEN, WRITTEN.replace("w->mode ? written_back(clean) : THROUGH_E", "!w->mode ? THROUGH_E : clean ? state : MODIFIED")),
+    ("a store of the same on M becomes E", CLEAN, clean("is_alone(state) & (word == before)")),
+    ("a store of the same on a lone O becomes E",
+     CLEAN, clean("(is_e(state) | (state == OWNED)) & (word == before)")),
+    ("a store of the same on a lone write-back S becomes E",
+     CLEAN, clean("(is_e(state) | (state == BACK_S)) & (word == before)")),
+    ("a store of the same on a lone write-through S becomes E",
+     CLEAN, clean("(is_e(state) | (state == THROUGH_S)) & (word == before)")),
+    ("a store of the same leaves E whatever it was", CLEAN, clean("word == before")),
+    ("a store of the same is a read", *SAME_IS_READ),
+    # What else such a hit may do.
+    ("a store of the same on E stores its word",
+     "    if (!w->mode)\n        store_line(w, w->line, word);\n" + ALONE,
+     "    if (!w->mode || clean)\n        store_line(w, w->line, word);\n" + ALONE),
+    ("a store of the same on E stores its word and doesn't count that",
+     ALONE, "    if (clean)\n        store64(w->memory + 8 * (size_t)w->line, word);\n" + ALONE),
+    ("a store of the same on E goes as one on S",
+     ALONE, "    if ((is_alone(state) && !(clean && w->mode)) || !others) {\n"),
+    ("a store of the same on E takes other copies away",
+     ALONE, "    if (clean && w->mode)\n        set_all(w, others, INVALID);\n" + ALONE),
+    ("a store of the same on a shared O leaves S",
+     SHARED, SHARED.replace("? OWNED", "? (state == OWNED && word == before ? BACK_S : OWNED)")),
+    ("a store of the same on a shared S leaves S",
+     SHARED, SHARED.replace("? OWNED", "? (state != OWNED && word == before ? BACK_S : OWNED)")),
+    ("a store of the same on a shared S leaves S and tells nobody",
+     SHARED, "    if (w->mode && state == BACK_S && word == before)\n        return;\n" + SHARED),
+    ("a store of the same on a shared O tells nobody",
+     SHARED, "    if (w->mode && state == OWNED && word == before)\n        return;\n" + SHARED),
+    ("a store of the same on a shared write-through S leaves the mode of the others",
+     SHARED, SHARED + "    if (w->mode && state == THROUGH_S && word == before)\n        return;\n"),
+    ("a store of the same hands no word on",
+     "        store64(w->data + 8 * other, word);\n",
+     "        if (word != before)\n            store64(w->data + 8 * other, word);\n"),
+    ("a hit puts no word into its own entry", "    store64(w->data + 8 * entry, word);\n    if (!w->mode)", "    if (!w->mode)"),
+    # In write through.
+    ("a write through of the same on E leaves write-back E",
+     WRITTEN, WRITTEN.replace("w->mode ?", "w->mode | clean ?")),
+    ("a write through of the same leaves the mode of E",
+     WRITTEN, WRITTEN.replace(": THROUGH_E", ": clean ? state : THROUGH_E")),
+    ("a write through of the same leaves M",
+     WRITTEN, WRITTEN.replace(": THROUGH_E", ": state == MODIFIED && word == before ? MODIFIED : THROUGH_E")),
+    ("a write through of the same stores nothing",
+     "    if (!w->mode)\n        store_line(w, w->line, word);\n" + ALONE,
+     "    if (!w->mode && word != before)\n        store_line(w, w->line, word);\n" + ALONE),
+    ("a write through of the same on E stores nothing",
+     "    if (!w->mode)\n        store_line(w, w->line, word);\n" + ALONE,
+     "    if (!w->mode && !clean)\n        store_line(w, w->line, word);\n" + ALONE),
+    # Misses.
+    ("a miss that stores the same leaves E", MISSED, missed("word == found")),
+    ("a miss that stores what memory has leaves E", MISSED, missed("word == found && !w->owners")),
+    ("a miss that stores what an owner has leaves E", MISSED, missed("word == found && w->owners")),
+    ("a miss that stores the same beside no holder leaves E", MISSED, missed("word == found && !w->holders")),
+    ("a swap miss that stores the same leaves E", MISSED, missed("word == found && w->kind == SWAP")),
+    ("a write miss under mask 0 leaves E", MISSED, missed("!w->mask")),
+    ("a miss that stores the same leaves the other copies", *COPIES_LEFT),
+    # What is compared.
+    ("the lower half tells a change", CLEAN, clean("is_e(state) & ((uint32_t)word == (uint32_t)before)")),
+    ("the upper half tells a change", CLEAN, clean("is_e(state) & (word >> 32 == before >> 32)")),
+    ("the lowest byte tells a change", CLEAN, clean("is_e(state) & ((uint8_t)word == (uint8_t)before)")),
+    ("all bytes but the highest tell a change", CLEAN, clean("is_e(state) & (word << 8 == before << 8)")),
+    ("all bytes but the lowest tell a change", CLEAN, clean("is_e(state) & (word >> 8 == before >> 8)")),
+    ("the operand is compared with the word before", CLEAN, clean("is_e(state) & (w->operand == before)")),
+    ("the operand is compared with the word after", CLEAN, clean("is_e(state) & (w->operand == word)")),
+    ("the word after is compared with memory's",
+     CLEAN, clean("is_e(state) & (word == load64(w->memory + 8 * (size_t)w->line))")),
+    ("the word before is compared with memory's",
+     CLEAN, clean("is_e(state) & (before == load64(w->memory + 8 * (size_t)w->line))")),
+    ("only a mask of no bytes stores the same", CLEAN, clean("is_e(state) & !w->mask")),
+    ("a mask of no bytes is taken for a change", CLEAN, clean("is_e(state) & (word == before) & !!w->mask")),
+    ("a mask of all bytes is taken for a change",
+     CLEAN, clean("is_e(state) & (word == before) & (w->mask != 0xFF)")),
+    # Swaps.
+    ("a swap that stores the same ends in M", CLEAN, clean("is_e(state) & (word == before) & (w->kind == WRITE)")),
+    ("a write that stores the same ends in M", CLEAN, clean("is_e(state) & (word == before) & (w->kind == SWAP)")),
+    ("a swap that puts back what it finds has failed",
+     "    w->swapped = half == w->compare;",
+     "    w->swapped = half == w->compare && merge(word, w->operand, w->mask) != word;"),
+    ("a swap that changes E leaves it E",
+     CLEAN, clean("is_e(state) & ((word == before) | (w->kind == SWAP))")),
+    ("a failed swap that would store the same turns M into E",
+     NOT_WRITTEN, "    {\n" + NOT_WRITTEN + "        if (w->kind == SWAP && w->mode && state == MODIFIED && "
+     "merge(word, w->operand, w->mask) == word)\n            w->states[entry] = BACK_E;\n    }\n"),
+    ("a failed swap that would change E ends in M",
+     NOT_WRITTEN, "    {\n" + NOT_WRITTEN + "        if (w->kind == SWAP && w->mode && is_e(state) && "
+     "merge(word, w->operand, w->mask) != word)\n            w->states[entry] = MODIFIED;\n    }\n"),
+    ("a failed swap that would store the same leaves write-through E",
+     NOT_WRITTEN, "    if (!(w->kind == SWAP && state == THROUGH_E && merge(word, w->operand, w->mask) == word))\n    "
+     + NOT_WRITTEN),
+    ("a failed swap that would store what an owner has leaves E",
+     "state = w->owners && w->mode ? MODIFIED",
+     "state = w->owners && w->mode && merge(word, w->operand, w->mask) != word ? MODIFIED"),
+    # Beside these.
+    ("a device write of the same leaves the copies",
+     "    store_line(w, w->line, merge(fetch(w), w->operand, w->mask));\n    set_all",
+     "    uint64_t found = fetch(w);\n\n    store_line(w, w->line, merge(found, w->operand, w->mask));\n"
+     "    if (merge(found, w->operand, w->mask) != found)\n        set_all"),
+    ("a write of no bytes is not refused for a bad entry",
+     "    if ((refusal = walk_ports(&w)))\n        return",
+     "    if ((refusal = walk_ports(&w)) && !(w.kind == WRITE && !w.mask))\n        return"),
+    ("a write of no bytes is not refused for its port",
+     "    if (w->kind < DEVICE_READ && w->port >= w->ports)",
+     "    if (w->kind == WRITE && !w->mask)\n        w->port %= w->ports;\n"
+     "    if (w->kind < DEVICE_READ && w->port >= w->ports)"),
     # Refusals.
     ("a refused order writes a table byte",
      "    if ((refusal = walk_ports(&w)))\n        return refuse(answer, refusal);",
@@ -554,6 +715,8 @@ TOTALS = [
     ("a flush's memory write is not counted", WRITES, "    if ((word & 7) != FLUSH)\n    " + WRITES),
     ("a swap that fails is not counted under its kind",
      ACCEPTED, "    if ((word & 7) != SWAP || load64(answer + 16))\n    " + ACCEPTED),
+    ("a write of no bytes is not counted",
+     ACCEPTED, "    if ((word & 7) != WRITE || (word >> 8 & 255))\n    " + ACCEPTED),
     ("accepted orders are not counted", ACCEPTED, ""),
     ("accepted orders are counted twice", ACCEPTED, ACCEPTED * 2),
     ("device writes are counted as writes",
@@ -706,6 +869,55 @@ BOTH = [
      "merge(fetch(w), w->operand, w->mask));\n    set_all(w, w->holders, THROUGH_S);",
      "    all_become_invalid(holding);\n",
      "    for (unsigned k = 0; k < holding->count; k++)\n        become(&holding->holders[k], 'S', SECOND_THROUGH);\n"),
+    ("a store that changes E leaves it E",
+     CLEAN, clean("is_e(state)"), SECOND_CLEAN, second_clean("own->status.letter == 'E'")),
+    ("a store of the same on M becomes E",
+     CLEAN, clean("is_alone(state) & (word == before)"),
+     SECOND_CLEAN, second_clean("(own->status.letter == 'E' || own->status.letter == 'M') && !changed")),
+    ("a store of the same on a lone O becomes E",
+     CLEAN, clean("(is_e(state) | (state == OWNED)) & (word == before)"),
+     SECOND_CLEAN,
+     second_clean("(own->status.letter == 'E' || (own->status.letter == 'O' && holding->count == 1)) && !changed")),
+    ("a store of the same on a shared O leaves S",
+     SHARED, SHARED.replace("? OWNED", "? (state == OWNED && word == before ? BACK_S : OWNED)"),
+     SECOND_SHARED,
+     "    if (order.mode == SECOND_BACK && own->status.letter == 'O' && !changed && holding->count > 1) {\n"
+     "        for (unsigned k = 0; k < holding->count; k++) {\n            holding->holders[k].word = merged;\n"
+     "            become(&holding->holders[k], 'S', SECOND_BACK);\n        }\n        return;\n    }\n" + SECOND_SHARED),
+    ("a write through of the same stores nothing",
+     "    if (!w->mode)\n        store_line(w, w->line, word);\n" + ALONE,
+     "    if (!w->mode && word != before)\n        store_line(w, w->line, word);\n" + ALONE,
+     "    if (order.mode == SECOND_THROUGH)\n        store(model, holding->line, merged, answer);\n",
+     "    if (order.mode == SECOND_THROUGH && changed)\n        store(model, holding->line, merged, answer);\n"),
+    ("a miss that stores what an owner has leaves E",
+     MISSED, missed("word == found && w->owners"), SECOND_MISSED, second_missed("!changed && owned")),
+    ("a miss that stores the same leaves the other copies", *COPIES_LEFT, *SECOND_COPIES_LEFT),
+    ("the lower half tells a change",
+     CLEAN, clean("is_e(state) & ((uint32_t)word == (uint32_t)before)"),
+     SECOND_CLEAN, second_clean("own->status.letter == 'E' && (uint32_t)merged == (uint32_t)own->word")),
+    ("all bytes but the highest tell a change",
+     CLEAN, clean("is_e(state) & (word << 8 == before << 8)"),
+     SECOND_CLEAN, second_clean("own->status.letter == 'E' && merged << 8 == own->word << 8")),
+    ("the operand is compared with the word after",
+     CLEAN, clean("is_e(state) & (w->operand == word)"),
+     SECOND_CLEAN, second_clean("own->status.letter == 'E' && order.operand == merged")),
+    ("a swap that changes E leaves it E",
+     CLEAN, clean("is_e(state) & ((word == before) | (w->kind == SWAP))"),
+     SECOND_CLEAN, second_clean("own->status.letter == 'E' && (!changed || order.kind == SECOND_SWAP)")),
+    ("a swap that puts back what it finds has failed",
+     "    w->swapped = half == w->compare;",
+     "    w->swapped = half == w->compare && merge(word, w->operand, w->mask) != word;",
+     "    answer->swapped = second_swap_succeeds(order, word) ? 1 : 0;",
+     "    answer->swapped = second_swap_succeeds(order, word) && "
+     "second_merge_changes(word, order.operand, order.mask);"),
+    ("a failed swap that would store the same turns M into E",
+     NOT_WRITTEN, "    {\n" + NOT_WRITTEN + "        if (w->kind == SWAP && w->mode && state == MODIFIED && "
+     "merge(word, w->operand, w->mask) == word)\n            w->states[entry] = BACK_E;\n    }\n",
+     SECOND_NOT_WRITTEN,
+     "        read_hit(model, holding, own, order.mode, answer);\n"
+     "    if (order.kind == SECOND_SWAP && !answer->swapped && order.mode == SECOND_BACK && own->status.letter == 'M' &&\n"
+     "        !second_merge_changes(own->word, order.operand, order.mask))\n        become(own, 'E', SECOND_BACK);\n"
+     "    put_holders_back"),
     # Ports read the right word then, and the audit says yes: what tells is a device read under mark 0.
     ("a device write gives an owner and its sharers the word, and memory nothing",
      "    store_line(w, w->line, merge(fetch(w), w->operand, w->mask));\n",
@@ -742,7 +954,7 @@ BOTH = [
      "        answer.refusal = 7;\n        return answer;\n    }\n    if (order.kind == SECOND_DEVICE_READ) {"),
 ]
 
-# The same slip in both models where the flat memory and the audit can't tell: the numbers worked out by hand can.
+# The same slip in both models where the flat memory and the audit can't tell: the device writes worked out by hand can.
 LISTED = [
     ("a device write merges the highest-numbered owner's word",
      "    store_line(w, w->line, merge(fetch(w), w->operand, w->mask));\n",
@@ -835,6 +1047,113 @@ LISTED = [
      "    if (answer.refusal != 0)\n        return answer;\n",
      "    if (answer.refusal == 6 && order.kind == SECOND_DEVICE_WRITE && !index_is_sound(model, order.line))\n"
      "        answer.refusal = 8;\n    if (answer.refusal != 0)\n        return answer;\n"),
+]
+
+# The same slip in both models where the flat memory and the audit can't tell: the stores worked out by hand can.
+SAME = [
+    ("a store of the same is a read", *SAME_IS_READ, *SECOND_SAME_IS_READ),
+    ("a store of the same on E ends in M", CLEAN, clean("0"), SECOND_CLEAN, second_clean("0")),
+    ("a store of the same on write-through E ends in M",
+     CLEAN, clean("(state == BACK_E) & (word == before)"),
+     SECOND_CLEAN, second_clean("own->status.letter == 'E' && own->status.mode == SECOND_BACK && !changed")),
+    ("a store of the same on write-back E ends in M",
+     CLEAN, clean("(state == THROUGH_E) & (word == before)"),
+     SECOND_CLEAN, second_clean("own->status.letter == 'E' && own->status.mode == SECOND_THROUGH && !changed")),
+    ("a store of the same on write-through E leaves write-through E",
+     WRITTEN, WRITTEN.replace("w->mode ? written_back(clean) : THROUGH_E", "!w->mode ? THROUGH_E : clean ? state : MODIFIED"),
+     SECOND_CLEAN, SECOND_CLEAN + "        return;\n"),
+    ("a store of the same on a lone S becomes E",
+     CLEAN, clean("(is_e(state) | (state == BACK_S) | (state == THROUGH_S)) & (word == before)"),
+     SECOND_CLEAN,
+     second_clean("(own->status.letter == 'E' || (own->status.letter == 'S' && holding->count == 1)) && !changed")),
+    ("a store of the same on a shared S leaves S and tells nobody",
+     SHARED, "    if (w->mode && state == BACK_S && word == before)\n        return;\n" + SHARED,
+     SECOND_SHARED,
+     "    if (order.mode == SECOND_BACK && own->status.letter == 'S' && own->status.mode == SECOND_BACK && !changed &&\n"
+     "        holding->count > 1)\n        return;\n" + SECOND_SHARED),
+    ("a store of the same on a shared O tells nobody",
+     SHARED, "    if (w->mode && state == OWNED && word == before)\n        return;\n" + SHARED,
+     SECOND_SHARED,
+     "    if (order.mode == SECOND_BACK && own->status.letter == 'O' && !changed && holding->count > 1)\n"
+     "        return;\n" + SECOND_SHARED),
+    ("a store of the same on E stores its word",
+     "    if (!w->mode)\n        store_line(w, w->line, word);\n" + ALONE,
+     "    if (!w->mode || clean)\n        store_line(w, w->line, word);\n" + ALONE,
+     SECOND_CLEAN, SECOND_CLEAN + "        store(model, holding->line, merged, answer);\n"),
+    ("a store of the same on E takes other copies away",
+     ALONE, "    if (clean && w->mode)\n        set_all(w, others, INVALID);\n" + ALONE,
+     SECOND_CLEAN, SECOND_CLEAN + "        all_become_invalid(holding);\n"),
+    ("a write through of the same on E leaves write-back E",
+     WRITTEN, WRITTEN.replace("w->mode ?", "w->mode | clean ?"),
+     SECOND_CLEAN, SECOND_CLEAN.replace(" && order.mode == SECOND_BACK", "")),
+    ("a write through of the same on E stores nothing",
+     "    if (!w->mode)\n        store_line(w, w->line, word);\n" + ALONE,
+     "    if (!w->mode && !clean)\n        store_line(w, w->line, word);\n" + ALONE,
+     "    if (order.mode == SECOND_THROUGH)\n        store(model, holding->line, merged, answer);\n",
+     "    if (order.mode == SECOND_THROUGH && !(own->status.letter == 'E' && !changed))\n"
+     "        store(model, holding->line, merged, answer);\n"),
+    ("a miss that stores what memory has leaves E",
+     MISSED, missed("word == found && !w->owners"), SECOND_MISSED, second_missed("!changed && !owned")),
+    ("the word after is compared with memory's",
+     CLEAN, clean("is_e(state) & (word == load64(w->memory + 8 * (size_t)w->line))"),
+     SECOND_CLEAN, second_clean("own->status.letter == 'E' && merged == model->memory[holding->line]")),
+    ("only a mask of no bytes stores the same",
+     CLEAN, clean("is_e(state) & !w->mask"),
+     SECOND_CLEAN, second_clean("own->status.letter == 'E' && order.mask == 0")),
+    ("a mask of no bytes is taken for a change",
+     CLEAN, clean("is_e(state) & (word == before) & !!w->mask"),
+     SECOND_CLEAN, second_clean("own->status.letter == 'E' && !changed && order.mask != 0")),
+    ("a mask of all bytes is taken for a change",
+     CLEAN, clean("is_e(state) & (word == before) & (w->mask != 0xFF)"),
+     SECOND_CLEAN, second_clean("own->status.letter == 'E' && !changed && order.mask != 0xFF")),
+    ("the operand is compared with the word before",
+     CLEAN, clean("is_e(state) & (w->operand == before)"),
+     SECOND_CLEAN, second_clean("own->status.letter == 'E' && order.operand == own->word")),
+    ("a swap that stores the same ends in M",
+     CLEAN, clean("is_e(state) & (word == before) & (w->kind == WRITE)"),
+     SECOND_CLEAN, second_clean("own->status.letter == 'E' && !changed && order.kind == SECOND_WRITE")),
+    ("a write that stores the same ends in M",
+     CLEAN, clean("is_e(state) & (word == before) & (w->kind == SWAP)"),
+     SECOND_CLEAN, second_clean("own->status.letter == 'E' && !changed && order.kind == SECOND_SWAP")),
+    ("a failed swap that would change E ends in M",
+     NOT_WRITTEN, "    {\n" + NOT_WRITTEN + "        if (w->kind == SWAP && w->mode && is_e(state) && "
+     "merge(word, w->operand, w->mask) != word)\n            w->states[entry] = MODIFIED;\n    }\n",
+     SECOND_NOT_WRITTEN,
+     "        read_hit(model, holding, own, order.mode, answer);\n"
+     "    if (order.kind == SECOND_SWAP && !answer->swapped && order.mode == SECOND_BACK && own->status.letter == 'E' &&\n"
+     "        second_merge_changes(own->word, order.operand, order.mask))\n        become(own, 'M', SECOND_BACK);\n"
+     "    put_holders_back"),
+    ("a device write of the same leaves the copies",
+     "    store_line(w, w->line, merge(fetch(w), w->operand, w->mask));\n    set_all",
+     "    uint64_t found = fetch(w);\n\n    store_line(w, w->line, merge(found, w->operand, w->mask));\n"
+     "    if (merge(found, w->operand, w->mask) != found)\n        set_all",
+     "    all_become_invalid(holding);\n",
+     "    if (second_merge_changes(word, order.operand, order.mask))\n        all_become_invalid(holding);\n"),
+]
+
+# Of the flat memory. The marks after stores worked out by hand catch these: what a device reads can't show them all.
+FLAT_MERGED = ("    flat->words[order.line] = second_merge(flat->words[order.line], order.operand, order.mask);\n"
+               "    flat->marks[order.line] = order.mode")
+FLAT_CHANGED = "second_merge_changes(flat->words[order.line], order.operand, order.mask)"
+FLAT = [
+    ("a store of the same leaves the mark",
+     FLAT_MERGED, f"    if (!{FLAT_CHANGED})\n        return;\n" + FLAT_MERGED),
+    ("a store of the same in write back leaves the mark",
+     FLAT_MERGED, f"    if (order.mode == SECOND_BACK && !{FLAT_CHANGED})\n        return;\n" + FLAT_MERGED),
+    ("a store of the same in write through leaves the mark",
+     FLAT_MERGED, f"    if (order.mode == SECOND_THROUGH && !{FLAT_CHANGED})\n        return;\n" + FLAT_MERGED),
+    ("a store of the same clears the mark",
+     FLAT_MERGED, f"    if (!{FLAT_CHANGED}) {{\n        flat->marks[order.line] = 0;\n        return;\n    }}\n"
+     + FLAT_MERGED),
+    ("a write of no bytes leaves the mark",
+     FLAT_MERGED, "    if (order.mask == 0)\n        return;\n" + FLAT_MERGED),
+    ("a swap that stores the same leaves the mark",
+     "    answer->swapped = 1;\n    flat_write(flat, order);\n",
+     f"    answer->swapped = 1;\n    if ({FLAT_CHANGED})\n        flat_write(flat, order);\n"),
+    ("a failed swap sets the mark",
+     "        flat_read(flat, order, answer);\n        return;\n",
+     "        flat_read(flat, order, answer);\n        flat->marks[order.line] = order.mode == SECOND_BACK ? 1 : 0;\n"
+     "        return;\n"),
 ]
 
 # The same slip of totals in both models: the totals worked out by hand can tell.
@@ -1279,7 +1598,7 @@ def edit(name, source, old, new):
 
 
 def main():
-    """mutants.py walking|totals|trace|rows|header SOURCE FOLDER, or both|listed|counted WALKING SECOND FOLDER.
+    """mutants.py walking|totals|trace|rows|flat|header SOURCE FOLDER, or both|listed|same|counted WALKING SECOND FOLDER.
 
     Prints number and name of each. A header keeps its name, in a folder that has the number.
     """
@@ -1288,7 +1607,7 @@ def main():
     folder = pathlib.Path(folder)
     folder.mkdir(parents=True, exist_ok=True)
     lists = {"walking": WALKING, "totals": TOTALS, "trace": TRACE, "rows": ROWS, "both": BOTH, "listed": LISTED,
-             "counted": COUNTED, "header": HEADER}
+             "same": SAME, "flat": FLAT, "counted": COUNTED, "header": HEADER}
     for number, (name, *edits) in enumerate(lists[which], 1):
         for place, text in enumerate(texts):
             old, new = edits[2 * place:2 * place + 2]

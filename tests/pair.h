@@ -24,6 +24,9 @@ enum slice { MEMORY, TAGS, STATES, DATA, RESULT, RECORD, SLICES };
 
 enum call { FRESH, STEP, AUDIT, STEP_TOTALS };
 
+/* The state bytes from I to M, counted from 0. */
+enum { TALLY_STATES = 7 };
+
 /* What the calls have met, so that a run can show that it met everything. */
 struct tally {
     uint64_t calls;
@@ -41,6 +44,10 @@ struct tally {
     uint64_t device_writes[3];    /* merged from an owner's word, from memory's with holders, and without */
     uint64_t device_masks[3];     /* 0x00, 0xFF, any other */
     uint64_t device_ports_beyond; /* device writes with a port field that no port has */
+    /* In random traffic: writes and swaps that succeed, by what they met. */
+    uint64_t stores[2][TALLY_STATES][SECOND_OTHERS][2][2][2]; /* from fresh, own state, others, mode, swap, changed */
+    uint64_t same_masks[3];    /* of those that stored the same: 0x00, 0xFF, any other */
+    uint64_t same_refused[10]; /* refused orders that would have stored the same, by refusal */
     /* In steps with a record. */
     uint64_t totals_refusals[10];
     uint64_t totals_kinds[SECOND_KINDS];

@@ -70,6 +70,12 @@ uint64_t second_merge(uint64_t word, uint64_t operand, unsigned mask)
     return merged;
 }
 
+/* Document 02's order 4: "The merge must now also tell whether the word changed." */
+int second_merge_changes(uint64_t word, uint64_t operand, unsigned mask)
+{
+    return second_merge(word, operand, mask) != word;
+}
+
 int second_swap_succeeds(struct second_order order, uint64_t word)
 {
     uint64_t lower = word % UINT64_C(0x100000000);
@@ -242,16 +248,23 @@ static void read_hit(struct second_model *model, struct holding *holding, struct
         become(&holding->holders[k], 'S', mode);
 }
 
-/* "Write hit, and swap hit that succeeds". */
+/* "Write hit, and swap hit that succeeds", as order 4 of document 02 amends it. */
 static void write_hit(struct second_model *model, struct holding *holding, struct holder *own,
                       struct second_order order, struct second_answer *answer)
 {
     uint64_t merged = second_merge(own->word, order.operand, order.mask);
+    int changed = second_merge_changes(own->word, order.operand, order.mask);
 
     /* "m = 0: store in memory", for E, M, S and O alike. */
     if (order.mode == SECOND_THROUGH)
         store(model, holding->line, merged, answer);
-    /* "E or M: merge. m = 1: M. m = 0: ... write-through E." */
+    /* "A write-back write hit, or successful write-back swap hit, on E that leaves the word as it was becomes
+       write-back E and not M." */
+    if (own->status.letter == 'E' && order.mode == SECOND_BACK && !changed) {
+        become(own, 'E', SECOND_BACK);
+        return;
+    }
+    /* Other hits on E and M: "E or M: merge. m = 1: M. m = 0: ... write-through E." */
     if (own->status.letter == 'E' || own->status.letter == 'M') {
         own->word = merged;
         become(own, order.mode == SECOND_BACK ? 'M' : 'E', order.mode);
@@ -269,7 +282,7 @@ static void write_hit(struct second_model *model, struct holding *holding, struc
         become(own, order.mode == SECOND_BACK ? 'M' : 'E', order.mode);
 }
 
-/* Misses. "others" are all the holders of the list, for the port is none of them. */
+/* Misses, whose rules order 4 leaves. "others" are all the holders of the list, for the port is none of them. */
 
 /* "if i's entry is O or M for another line, its word is first stored at that line." */
 static void evict(struct second_model *model, unsigned entry, struct second_answer *answer)
@@ -484,6 +497,26 @@ unsigned second_holders(const struct second_model *model, unsigned line)
 
     list_holders(model, line, &holding);
     return holding.count;
+}
+
+struct second_met second_meets(const struct second_model *model, unsigned port, unsigned line)
+{
+    struct second_met met = {0, SECOND_NO_OTHER, model->memory[line]};
+    struct holding holding;
+    const struct holder *own, *owner;
+
+    list_holders(model, line, &holding);
+    own = own_holder(&holding, port);
+    owner = lowest_owner(&holding);
+    if (own != NULL)
+        met.state = byte_of_status(own->status);
+    if (own != NULL || owner != NULL)
+        met.word = own != NULL ? own->word : owner->word;
+    for (unsigned k = 0; k < holding.count; k++) {
+        if (holding.holders[k].port != port && met.others != SECOND_OTHER_OWNER)
+            met.others = owns(&holding.holders[k]) ? SECOND_OTHER_OWNER : SECOND_CLEAN_OTHERS;
+    }
+    return met;
 }
 
 /* The audit. */

@@ -1,4 +1,4 @@
-/* The second model: documents 01 and 02 (orders 1, 2) in plain C: a line and its holders at a time, on own arrays. */
+/* The second model: documents 01 and 02 (orders 1, 2, 4) in plain C: a line and its holders at a time, own arrays. */
 
 #ifndef SECOND_MODEL_H
 #define SECOND_MODEL_H
@@ -90,6 +90,9 @@ uint64_t second_order_refusal(struct second_shape shape, struct second_order ord
 /* Byte k of the operand where mask bit k is 1, else byte k of the word. */
 uint64_t second_merge(uint64_t word, uint64_t operand, unsigned mask);
 
+/* Whether the merge changes the word. */
+int second_merge_changes(uint64_t word, uint64_t operand, unsigned mask);
+
 /* Whether a swap finds its compare value in the half that its mask names. */
 int second_swap_succeeds(struct second_order order, uint64_t word);
 
@@ -116,6 +119,18 @@ void second_count(uint8_t record[SECOND_RECORD_BYTES], uint64_t word, struct sec
 
 /* How many ports hold the line. */
 unsigned second_holders(const struct second_model *model, unsigned line);
+
+/* What an access by a port meets at a line: the port's own state byte, 0 where it doesn't hold the line; what the other
+   ports have of it; and the word, which is its own, else the lowest-numbered owner's, else memory's. */
+enum second_others { SECOND_NO_OTHER, SECOND_CLEAN_OTHERS, SECOND_OTHER_OWNER, SECOND_OTHERS };
+
+struct second_met {
+    uint8_t state;
+    enum second_others others;
+    uint64_t word;
+};
+
+struct second_met second_meets(const struct second_model *model, unsigned port, unsigned line);
 
 /* Little-endian bytes of the slices and the answer, decoded and encoded. */
 void second_decode(struct second_model *model, const uint8_t *memory, const uint8_t *tags, const uint8_t *states,

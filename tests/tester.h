@@ -1,4 +1,4 @@
-/* What a run of the differential test works with, what its groups share, and the groups on totals. */
+/* What a run of the differential test works with, what its groups share, and the groups on stores and on totals. */
 
 #ifndef TESTER_H
 #define TESTER_H
@@ -10,8 +10,8 @@ struct tester {
     const char *name;
     uint64_t seed;
     uint64_t percent; /* of the usual number of calls */
-    uint64_t group;   /* the only group to run; GROUPS for all */
-    uint64_t from;    /* the first group to run, unless there is only one */
+    size_t group;     /* the only group to run; GROUPS for all */
+    size_t from;      /* the first group to run, unless there is only one */
     uint64_t run;     /* the only run of it; UINT64_MAX for all */
     int first;        /* stop at the first group that fails */
     int exact;        /* slices without guard bytes, for a memory checker */
@@ -24,11 +24,31 @@ struct tester {
 /* Says what a call outside a history showed; gives 0. */
 int report_call(struct tester *tester, const char *what, struct second_shape shape, uint64_t word, uint64_t operand);
 
+/* An entry of the three tables, as a list has it. */
+struct entry {
+    unsigned state;
+    uint32_t tag;
+    uint64_t data;
+};
+
+/* The lent bytes as numbers, till the next call of this. */
+const struct second_model *lent_numbers(const struct pair *pair);
+
+/* Whether the lent answer is this one, and the lent tables and memory of the shape 2/1/2 are these. */
+int answer_is(const struct pair *pair, const struct second_answer *answer);
+int tables_are(const struct pair *pair, const struct entry entries[2], const uint64_t memory[2]);
+
+/* One order on the table in history.start, which is lent anew for each order; 1 if all is as expected. */
+int add_to_start(struct tester *tester, uint64_t word, uint64_t operand);
+
 /* Two ports, one set, two lines, memory 5 and 7: begins a history from fresh; 1 if all is as expected. */
 int begin_at_five_and_seven(struct tester *tester);
 
 /* Chooses a run's traffic on a shape, and fills main memory of history.start. */
 void begin_traffic(struct tester *tester, struct second_shape shape);
+
+/* Adds random orders to a history that has begun; 1 if all is as expected. */
+int add_orders(struct tester *tester, size_t orders);
 
 /* Carries out random orders from history.start, fresh or not; 1 if all is as expected. */
 int run_history(struct tester *tester, int fresh, size_t orders);
@@ -38,6 +58,10 @@ int report_history(struct tester *tester);
 
 /* Places slices again, those whose bit is set in wrong (memory, tags, states, data), mostly with other lengths. */
 void misplace(struct tester *tester, unsigned wrong);
+
+/* The groups on stores that store the same: numbers worked out by hand (run 0 and 1), and stores in histories. */
+int stores_numbers(struct tester *tester, uint64_t run);
+int stores_in_histories(struct tester *tester, uint64_t run);
 
 /* The groups on totals: numbers worked out by hand (run 0 to 2), sums over histories, any records, other lengths. */
 int totals_numbers(struct tester *tester, uint64_t run);

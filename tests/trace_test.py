@@ -56,7 +56,14 @@ def random_trace(generator, count=None):
     sets = 1 << generator.randrange(7)
     lines = generator.choice((1, 2, 5, sets, 2 * sets, 64, 1000, 4095, 4096))
     count = generator.randrange(60) if count is None else count
-    return trace(ports, sets, lines, [random_order(generator, ports, sets, lines) for _ in range(count)])
+    orders = []
+    while len(orders) < count:
+        # Often the order before once more, in either mode: a write then stores the same.
+        if orders and generator.random() < 0.2:
+            orders.append((orders[-1][0] ^ generator.choice((0, 8)), orders[-1][1]))
+        else:
+            orders.append(random_order(generator, ports, sets, lines))
+    return trace(ports, sets, lines, orders)
 
 
 class Tester:
@@ -191,6 +198,23 @@ def device_writes(tester):
     tester.test("device writes", [tester.agrees(trace(2, 1, 2, listed), literal.encode())])
 
 
+def same_stores(tester):
+    """Stores that store the same: on E they leave no owner, on a miss, S and O they do; and one that changes a byte."""
+    listed = [(word(READ, 1, 0), 0), (word(WRITE, 1, 0, 0xFF), 0), (word(SWAP, 1, 0, 0x0F), 0), (word(READ, 1, 1), 0),
+              (word(WRITE, 1, 1, 0x00), 9), (word(WRITE, 1, 1, 0xFF), 0), (word(READ, 0, 0), 0),
+              (word(FLUSH, 0, 1), 0), (word(FLUSH, 0, 0), 0), (word(WRITE, 1, 0, 0xFF), 0), (word(FLUSH, 0, 0), 0),
+              (word(READ, 0, 0), 0), (word(WRITE, 1, 0, 0x00), 5), (word(FLUSH, 0, 0), 0), (word(READ, 1, 0), 0),
+              (word(WRITE, 1, 0, 0x80), 1 << 56), (word(FLUSH, 0, 0), 0), (word(DEVICE_READ), 0)]
+    answers = ["0 0 1 0", "0 0 0 0", "0 1 0 0", "0 0 1 0",
+               "0 0 0 0", "0 0 0 0", "0 0 0 1",
+               "0 0 0 0", "0 0 0 0", "0 0 1 0", "0 0 0 1",
+               "0 0 1 0", "0 0 0 0", "0 0 0 0", "0 0 1 0",
+               "0 0 0 0", "0 0 0 1", f"{1 << 56} 0 1 0"]
+    literal = "ports 2 sets 1 lines 2 orders 18\n"
+    literal += "".join(f"{k + 1} 0 {answer}\n" for k, answer in enumerate(answers)) + "audit 1\n"
+    tester.test("stores that store the same", [tester.agrees(trace(2, 1, 2, listed), literal.encode())])
+
+
 def start(name, inputs):
     """The options, what runs the program and compares, and the random numbers."""
     parser = argparse.ArgumentParser()
@@ -226,6 +250,7 @@ def main():
                      for size in ((1,), (7,), (16,))))
     orders(tester, generator)
     device_writes(tester)
+    same_stores(tester)
     tester.test("random traces", (tester.agrees(random_trace(generator)) for _ in range(chosen.random)))
     finish(chosen, tester)
 

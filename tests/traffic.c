@@ -57,16 +57,18 @@ void traffic_begin(struct traffic *traffic, struct generator *generator, struct 
         traffic->hot[k] = line;
     }
     traffic->hot_percent = generator_percent(generator, 80) ? 90 : 20;
+    traffic->hit_percent = generator_percent(generator, 50) ? 0 : 60;
     traffic->back_percent = percents[generator_below(generator, 5)];
     traffic->odd_percent = generator_percent(generator, 50) ? 2 : 15;
     traffic->wide_percent = generator_percent(generator, 50) ? 10 : 60;
+    traffic->same_percent = generator_percent(generator, 50) ? 20 : 70;
     for (unsigned k = 0; k < SECOND_KINDS; k++)
         traffic->weights[k] = 1 + generator_below(generator, 8);
 }
 
 /* Words. */
 
-uint64_t traffic_operand(const struct traffic *traffic, struct generator *generator)
+static uint64_t some_word(const struct traffic *traffic, struct generator *generator)
 {
     uint64_t few = generator_below(generator, 4);
 
@@ -78,7 +80,7 @@ uint64_t traffic_operand(const struct traffic *traffic, struct generator *genera
 void traffic_fill_memory(const struct traffic *traffic, struct generator *generator, struct second_model *model)
 {
     for (size_t line = 0; line < model->shape.lines; line++)
-        model->memory[line] = traffic_operand(traffic, generator);
+        model->memory[line] = some_word(traffic, generator);
 }
 
 void traffic_fill_tables(struct generator *generator, struct second_model *model)
@@ -109,6 +111,21 @@ static unsigned usual_kind(const struct traffic *traffic, struct generator *gene
     while (thrown >= traffic->weights[kind])
         thrown -= traffic->weights[kind++];
     return kind;
+}
+
+/* Any port, or the next one from it on that holds the line. */
+static unsigned usual_port(const struct traffic *traffic, struct generator *generator, const struct second_model *model,
+                           unsigned line)
+{
+    unsigned ports = (unsigned)traffic->shape.ports, port = generator_below(generator, ports);
+
+    if (!generator_percent(generator, traffic->hit_percent))
+        return port;
+    for (unsigned k = 0; k < ports; k++) {
+        if (second_meets(model, (port + k) % ports, line).state != 0)
+            return (port + k) % ports;
+    }
+    return port;
 }
 
 static unsigned usual_mask(struct generator *generator, unsigned kind)
@@ -143,7 +160,7 @@ static uint64_t odd_order(const struct traffic *traffic, struct generator *gener
     uint64_t kind = wrong & 1 ? 6 + generator_below(generator, 2) : generator_below(generator, SECOND_KINDS);
     uint64_t port = generator_below(generator, traffic->shape.ports);
     uint64_t line = usual_line(traffic, generator);
-    uint64_t mask = generator_percent(generator, 50) ? 0x0F : 0xF0;
+    uint64_t mask = usual_mask(generator, (unsigned)kind);
 
     if (wrong == 0)
         return generator_word(generator);
@@ -167,8 +184,8 @@ uint64_t traffic_order(const struct traffic *traffic, struct generator *generato
         return odd_order(traffic, generator);
     kind = usual_kind(traffic, generator);
     mode = generator_percent(generator, traffic->back_percent);
-    port = generator_below(generator, traffic->shape.ports);
     line = usual_line(traffic, generator);
+    port = usual_port(traffic, generator, model, line);
     mask = usual_mask(generator, kind);
     compare = kind == SECOND_SWAP ? usual_compare(generator, model, line, mask) : generator_word(generator) >> 32;
     /* Fields that the kind doesn't use hold anything. */
@@ -177,6 +194,25 @@ uint64_t traffic_order(const struct traffic *traffic, struct generator *generato
         port = generator_below(generator, 16);
     }
     return traffic_word(kind, mode, port, mask, line, compare);
+}
+
+/* Often from the word that the port would find: the bytes under the mask or all of them, so that the order stores the
+   same; and of these often all but one bit, so that it nearly does. */
+uint64_t traffic_operand(const struct traffic *traffic, struct generator *generator, const struct second_model *model,
+                         uint64_t word)
+{
+    struct second_order order = second_take_apart(word, 0);
+    uint64_t operand = some_word(traffic, generator), found;
+
+    if (!generator_percent(generator, traffic->same_percent))
+        return operand;
+    /* Of an order that is refused too, for it must not be carried out. */
+    found = second_meets(model, order.port % (unsigned)traffic->shape.ports,
+                         order.line % (unsigned)traffic->shape.lines).word;
+    operand = generator_percent(generator, 50) ? found : second_merge(operand, found, order.mask);
+    if (generator_percent(generator, 30))
+        operand ^= UINT64_C(1) << generator_below(generator, 64);
+    return operand;
 }
 
 /* Tables that no history leads to. */
@@ -212,8 +248,8 @@ void traffic_damage(const struct traffic *traffic, struct generator *generator, 
     case 2: model->data[entry] ^= UINT64_C(1) << generator_below(generator, 64); break;
     case 3: model->memory[line] ^= UINT64_C(1) << generator_below(generator, 64); break;
     case 4: case 5: model->tags[entry] = line / sets; break;
-    case 6: case 7: model->data[entry] = traffic_operand(traffic, generator); break;
-    case 8: model->memory[line] = traffic_operand(traffic, generator); break;
+    case 6: case 7: model->data[entry] = some_word(traffic, generator); break;
+    case 8: model->memory[line] = some_word(traffic, generator); break;
     case 9: case 10: /* a copy of another port's entry */
         model->tags[entry] = model->tags[other];
         model->states[entry] = model->states[other];
@@ -238,7 +274,7 @@ void traffic_noise(const struct traffic *traffic, struct generator *generator, s
 
         model->tags[entry] = ways > 0 ? generator_below(generator, ways < 3 ? ways : 3) : 0;
         model->states[entry] = ways > 0 ? state_bytes[generator_below(generator, 7)] : 0;
-        model->data[entry] = traffic_operand(traffic, generator);
+        model->data[entry] = some_word(traffic, generator);
         if (generator_percent(generator, wrong))
             model->tags[entry] = tag_beyond(generator, traffic->shape);
         if (generator_percent(generator, wrong))

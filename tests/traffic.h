@@ -12,9 +12,11 @@ struct traffic {
     unsigned hot[8]; /* lines that many orders go to; most share an index */
     unsigned hot_count;
     unsigned hot_percent;
+    unsigned hit_percent;  /* orders by a port that holds the line, where there is one */
     unsigned back_percent; /* orders in write back */
     unsigned odd_percent;  /* orders with a field out of its range */
     unsigned wide_percent; /* operands and words from all 64 bits, not few values */
+    unsigned same_percent; /* operands made from the word that the port would find */
     unsigned weights[SECOND_KINDS]; /* of the kinds */
 };
 
@@ -30,9 +32,10 @@ void traffic_begin(struct traffic *traffic, struct generator *generator, struct 
 /* An order word from its fields. */
 uint64_t traffic_word(uint64_t kind, uint64_t mode, uint64_t port, uint64_t mask, uint64_t line, uint64_t compare);
 
-/* An order, seen the tables: so that swaps succeed often. */
+/* An order and its operand, with the tables seen: so that swaps succeed often, and often the word stays as it was. */
 uint64_t traffic_order(const struct traffic *traffic, struct generator *generator, const struct second_model *model);
-uint64_t traffic_operand(const struct traffic *traffic, struct generator *generator);
+uint64_t traffic_operand(const struct traffic *traffic, struct generator *generator, const struct second_model *model,
+                         uint64_t word);
 
 /* Random words in main memory, few values or all 64 bits. */
 void traffic_fill_memory(const struct traffic *traffic, struct generator *generator, struct second_model *model);
