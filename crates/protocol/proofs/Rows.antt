@@ -1,5 +1,5 @@
 -- Rows of nibbles: what stands at a state's nibble of a packed row, and the number of a row. Assumes nothing.
-use Prim.Native.Nat.{ℕ, zero, suc, _+_, _*_, _/_, _%_, _<_, _≤_}
+use Prim.Native.Nat.{ℕ, zero, suc, _+_, _-_, _*_, _/_, _%_, _<_, _≤_}
 use mathlib.Core.Bool.{Bool, true, false}
 use mathlib.Core.Path.{_≡_, refl, sym, _∙_}
 use mathlib.Core.Logic.{_≢_}
@@ -18,10 +18,11 @@ use Rattle.protocol.specs.declared.rules.Rule.{Rule}
 use Rattle.protocol.specs.declared.rules.Row.{Row}
 use Rattle.protocol.specs.declared.rules.Coded.{Coded}
 use Rattle.words.specs.Bools.{bit}
-use Rattle.protocol.specs.State.{code, stateOf, isState, orInvalid}
+use Rattle.words.specs.Access.{writes}
+use Rattle.protocol.specs.State.{code, stateOf, isState, orInvalid, isBack}
 use Rattle.protocol.specs.Rules.{rule, snooped, updates}
 use Rattle.protocol.specs.Coded.{busNumber, busAt, coded, pack, nibbleAt, packed, actNumber, ownRow, outcomeNumber, modeNumber, outcomeAt}
-use Rattle.protocol.specs.Coded.{modeAt, ownRowAt, snoopRow}
+use Rattle.protocol.specs.Coded.{modeAt, ownRowAt, fails, keptClean, snoopRow}
 use Rattle.words.proofs.Bools.{Is, by-bool, by-cond}
 use Rattle.protocol.proofs.Finite.{at-bus}
 use Rattle.protocol.proofs.States.{code-small, code-stateOf}
@@ -49,8 +50,14 @@ apart-le B (suc k) n h = let l = apart-le B k n (h .0) in omega (arith, l, h .1)
 pub last : (B : Type 0) (k n : ℕ) → Apart B n k → n < suc k → n ≡ k
 last B k n h l = let m = apart-le B k n h in omega (arith, m)
 
--- What stands at the number of a row.
-outcome-at : (k : Outcome) → outcomeAt (outcomeNumber k) ≡ k
+-- What stands at the number of a row. A rewrite has the row of a write.
+abbrev rowOutcome : Outcome → Outcome
+rowOutcome Reads = Reads
+rowOutcome Fails = Fails
+rowOutcome Writes = Writes
+rowOutcome Rewrites = Writes
+
+outcome-at : (k : Outcome) → outcomeAt (outcomeNumber k) ≡ rowOutcome k
 unfolding outcomeAt
 outcome-at Reads = refl
 outcome-at Fails = refl
@@ -77,7 +84,7 @@ bit-small false = omega arith
 abbrev rowNumber : Outcome → Mode → Bool → Bool → ℕ
 rowNumber k m shared dirty = ((outcomeNumber k * 2 + modeNumber m) * 2 + bit shared) * 2 + bit dirty
 
-row-at : (k : Outcome) (m : Mode) (shared dirty : Bool) → ownRowAt (rowNumber k m shared dirty) ≡ ownRow k m shared dirty
+row-at : (k : Outcome) (m : Mode) (shared dirty : Bool) → ownRowAt (rowNumber k m shared dirty) ≡ ownRow (rowOutcome k) m shared dirty
 unfolding ownRowAt
 row-at k m shared dirty =
     let hm = mode-small m in
@@ -136,18 +143,61 @@ act-stores r = let h = bus-below (r .bus) in stored (busNumber (r .bus)) (r .sto
 place : (s : ℕ) → Is (isState (stateOf s)) → s % 16 ≡ code (orInvalid (stateOf s))
 place s h = omega (arith, code-stateOf s h, code-small (orInvalid (stateOf s)))
 
--- The nibbles of the row are the rule.
-pub own-rule-is : (k : Outcome) (m : Mode) (shared dirty : Bool) (s : ℕ) → Is (isState (stateOf s)) → {a b c d x y : ℕ} {row : Row} →
+-- The number of an outcome, from two tests.
+outcome-number : (k : Outcome) → (2 * bit (writes k) + bit (fails k) ≡ outcomeNumber k) × (2 * bit (writes k) + bit (fails k) ≤ 2)
+outcome-number Reads = (refl, omega arith)
+outcome-number Fails = (refl, omega arith)
+outcome-number Writes = (refl, omega arith)
+outcome-number Rewrites = (refl, omega arith)
+
+pub outcome-number-is : (k : Outcome) {a b : ℕ} {w f : Bool} → w ≡ writes k → a ≡ bit w → f ≡ fails k → b ≡ bit f
+    → (2 * a + b ≡ outcomeNumber k) × (2 * a + b ≤ 2)
+outcome-number-is k ew ea ef eb = rw (ea, ew, eb, ef) (outcome-number k)
+
+pub back-number : (m : Mode) → eqb (modeNumber m) 1 ≡ isBack m
+back-number Through = refl
+back-number Back = refl
+
+-- Of a row the acts are those of the outcome itself, and so are the next states less what is taken off.
+acts-same : (k : Outcome) (m : Mode) (shared dirty : Bool) → ownRow (rowOutcome k) m shared dirty .1 ≡ ownRow k m shared dirty .1
+unfolding ownRow packed pack actNumber rule
+acts-same Reads m shared dirty = refl
+acts-same Fails m shared dirty = refl
+acts-same Writes m shared dirty = refl
+acts-same Rewrites m shared dirty = refl
+
+abbrev Cleaned : Outcome → Mode → Bool → Bool → Type 0
+Cleaned k m shared dirty =
+    (keptClean k m ≤ ownRow (rowOutcome k) m shared dirty .0)
+    × (ownRow (rowOutcome k) m shared dirty .0 - keptClean k m ≡ ownRow k m shared dirty .0)
+
+cleaned : (k : Outcome) (m : Mode) (shared dirty : Bool) → Cleaned k m shared dirty
+unfolding keptClean ownRow packed pack rule code
+cleaned Reads m shared dirty = (omega arith, omega arith)
+cleaned Fails m shared dirty = (omega arith, omega arith)
+cleaned Writes m shared dirty = (omega arith, omega arith)
+cleaned Rewrites Through shared dirty = (omega arith, omega arith)
+cleaned Rewrites Back true dirty = (omega arith, refl)
+cleaned Rewrites Back false dirty = (omega arith, refl)
+
+-- The row has what is taken off it, and its nibbles are the rule.
+pub row-fits : (k : Outcome) (m : Mode) (shared dirty : Bool) {a b c d kept : ℕ} {row : Row} →
     a ≡ outcomeNumber k → b ≡ modeNumber m → c ≡ bit shared → d ≡ bit dirty → row ≡ ownRowAt (((a * 2 + b) * 2 + c) * 2 + d) →
-    x ≡ nibbleAt (row .1) (s % 16) → y ≡ nibbleAt (row .0) (s % 16) →
+    kept ≡ keptClean k m → kept ≤ row .0
+row-fits k m shared dirty ea eb ec ed er ek = rw (ek, er, ea, eb, ec, ed, row-at k m shared dirty) (cleaned k m shared dirty .0)
+
+pub own-rule-is : (k : Outcome) (m : Mode) (shared dirty : Bool) (s : ℕ) → Is (isState (stateOf s)) → {a b c d kept x y : ℕ} {row : Row} →
+    a ≡ outcomeNumber k → b ≡ modeNumber m → c ≡ bit shared → d ≡ bit dirty → row ≡ ownRowAt (((a * 2 + b) * 2 + c) * 2 + d) →
+    x ≡ nibbleAt (row .1) (s % 16) → kept ≡ keptClean k m → y ≡ nibbleAt (row .0 - kept) (s % 16) →
     _≡_ {A = Coded} (record { own = y; bus = x % 8; stores = leb 8 x }) (coded (rule k m shared dirty (orInvalid (stateOf s))))
 unfolding ownRow coded
-own-rule-is k m shared dirty s h ea eb ec ed er ex ey =
+own-rule-is k m shared dirty s h ea eb ec ed er ex ek ey =
     let z = orInvalid (stateOf s) in
     let r = rule k m shared dirty z in
     let own = packed-at (λ s. code (rule k m shared dirty s .own)) (λ s. code-small (rule k m shared dirty s .own)) z in
     let act = packed-at (λ s. actNumber (rule k m shared dirty s)) (λ s. act-small (rule k m shared dirty s)) z in
-    rw (ey, ex, er, ea, eb, ec, ed, row-at k m shared dirty, place s h, own, act, act-bus r, act-stores r)
+    let next = cleaned k m shared dirty .1 in
+    rw (ey, ek, ex, er, ea, eb, ec, ed, row-at k m shared dirty, next, acts-same k m shared dirty, place s h, own, act, act-bus r, act-stores r)
 
 -- The nibble of the command's row is what the holder becomes.
 pub snooped-is : (n s : ℕ) → Is (isState (stateOf s)) → {row x : ℕ} → row ≡ snoopRow n → x ≡ nibbleAt row (s % 16) →

@@ -1,6 +1,6 @@
 -- The rule tables in numbers, as the code has them: a state by its byte, a bus command by a number, a row of a table as a word of nibbles.
-use Prim.Native.Nat.{ℕ, _+_, _*_, _/_, _%_, _^_}
-use mathlib.Core.Bool.{Bool, cond}
+use Prim.Native.Nat.{ℕ, _+_, _-_, _*_, _/_, _%_, _^_}
+use mathlib.Core.Bool.{Bool, true, false, cond, _&&_}
 use mathlib.Core.List.{List, [], _∷_}
 use lib.Dec.{eqb}
 use Rattle.protocol.specs.declared.state.Mode.{Mode}
@@ -15,7 +15,7 @@ use Rattle.protocol.specs.declared.rules.Rule.{Rule}
 use Rattle.protocol.specs.declared.rules.Coded.{Coded}
 use Rattle.protocol.specs.declared.rules.Row.{Row}
 use Rattle.words.specs.Bools.{bit}
-use Rattle.protocol.specs.State.{code}
+use Rattle.protocol.specs.State.{isE, isBack, code}
 use Rattle.protocol.specs.Rules.{rule, snooped}
 
 -- The numbers of the bus commands.
@@ -66,25 +66,43 @@ ownRow k m shared dirty = record {
   1 = packed (λ s. actNumber (rule k m shared dirty s));
 }
 
--- The number of a row: outcome, mode, shared and dirty, as the digits 0 to 3, 0 or 1, 0 or 1, 0 or 1; and what stands at a number.
+-- The number of a row: outcome, mode, shared and dirty, as the digits 0 to 2, 0 or 1, 0 or 1, 0 or 1; and what stands at a number. A rewrite has
+-- the rows of a write.
 abbrev pub outcomeNumber : Outcome → ℕ
 outcomeNumber Reads = 0
 outcomeNumber Fails = 1
 outcomeNumber Writes = 2
-outcomeNumber Rewrites = 3
+outcomeNumber Rewrites = 2
 
 abbrev pub modeNumber : Mode → ℕ
 modeNumber Through = 0
 modeNumber Back = 1
 
 unfoldable pub outcomeAt : ℕ → Outcome
-outcomeAt n = cond (eqb n 0) Reads (cond (eqb n 1) Fails (cond (eqb n 2) Writes Rewrites))
+outcomeAt n = cond (eqb n 0) Reads (cond (eqb n 1) Fails Writes)
 
 unfoldable pub modeAt : ℕ → Mode
 modeAt n = cond (eqb n 0) Through Back
 
 unfoldable pub ownRowAt : ℕ → Row
 ownRowAt n = ownRow (outcomeAt (n / 8)) (modeAt (n / 4 % 2)) (eqb (n / 2 % 2) 1) (eqb (n % 2) 1)
+
+-- A swap that fails; and a rewrite. (With `writes`, what the code asks of an outcome.)
+abbrev pub fails : Outcome → Bool
+fails Reads = false
+fails Fails = true
+fails Writes = false
+fails Rewrites = false
+
+abbrev pub rewrites : Outcome → Bool
+rewrites Reads = false
+rewrites Fails = false
+rewrites Writes = false
+rewrites Rewrites = true
+
+-- What a rewrite takes off the next states of a write's row: in write back, where the port sees E, as much as makes write-back E of M.
+unfoldable pub keptClean : Outcome → Mode → ℕ
+keptClean k m = cond (rewrites k && isBack m) (packed (λ s. cond (isE s) (code M - code (E Back)) 0)) 0
 
 -- The row of the snoop table of a command: what a holder's byte becomes.
 unfoldable pub snoopRow : ℕ → ℕ

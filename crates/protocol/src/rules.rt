@@ -2,13 +2,16 @@
 use crate::state::Mode;
 use crate::state::State;
 use words::access::Outcome;
+use words::choose;
 ghost use mathlib.Core.Path.{_≡_};
 ghost use mathlib.Core.Bool.{true};
 ghost use Prim.Native.Nat.{_<_, _≤_, _%_};
 ghost use Rattle.words.specs.Bools.{bit};
+ghost use Rattle.words.specs.Access.{writes};
 ghost use Rattle.protocol.specs.State.{code, stateOf, orInvalid, isState};
 ghost use Rattle.protocol.specs.Rules.{rule, snooped, updates};
 ghost use Rattle.protocol.specs.Coded.{busAt, coded, nibbleAt, outcomeNumber, modeNumber, ownRowAt, snoopRow};
+ghost use Rattle.protocol.specs.Coded.{fails, rewrites, keptClean};
 
 // What a port says to the other holders, or a device to all: nothing; become S in a mode; that, and take the new word; become I; become write-back S,
 // but an owner stays the owner, as O.
@@ -39,7 +42,7 @@ pub struct Coded {
 pub struct Row(pub u64, pub u64);
 
 fn own_row(n: u8) -> Row
-    requires { ⌜ n < 32 ⌝ }
+    requires { ⌜ n < 24 ⌝ }
     ensures { λ r. ⌜ r ≡ ownRowAt n ⌝ }
 {
     match n {
@@ -66,15 +69,7 @@ fn own_row(n: u8) -> Row
         20 => Row(0xCCCC000000CCC, 0x0606000000061),
         21 => Row(0xCCCC000000CCC, 0x0606000000061),
         22 => Row(0xCBCB000000CBC, 0x0606000000061),
-        23 => Row(0xCBCB000000CBC, 0x0606000000061),
-        24 => Row(0x2222000000222, 0x8D8D0000008D9),
-        25 => Row(0x2222000000222, 0x8D8D0000008D9),
-        26 => Row(0x2121000000212, 0x8D8D0000008D9),
-        27 => Row(0x2121000000212, 0x8D8D0000008D9),
-        28 => Row(0xCCAC000000ACC, 0x0606000000061),
-        29 => Row(0xCCAC000000ACC, 0x0606000000061),
-        30 => Row(0xCBAB000000ABC, 0x0606000000061),
-        _ => Row(0xCBAB000000ABC, 0x0606000000061),
+        _ => Row(0xCBCB000000CBC, 0x0606000000061),
     }
 }
 
@@ -101,15 +96,51 @@ pub fn nibble(row: u64, s: u8) -> u8
     ((row >> (4 * (s % 16))) % 16) as u8
 }
 
-fn outcome_number(k: Outcome) -> u8
-    ensures { λ r. ⌜ (r ≡ outcomeNumber k) × (r ≤ 3) ⌝ }
+fn is_write(k: Outcome) -> bool
+    ensures { λ r. ⌜ r ≡ writes k ⌝ }
 {
     match k {
-        Outcome::Reads => 0,
-        Outcome::Fails => 1,
-        Outcome::Writes => 2,
-        Outcome::Rewrites => 3,
+        Outcome::Reads => false,
+        Outcome::Fails => false,
+        Outcome::Writes => true,
+        Outcome::Rewrites => true,
     }
+}
+
+fn is_failed(k: Outcome) -> bool
+    ensures { λ r. ⌜ r ≡ fails k ⌝ }
+{
+    match k {
+        Outcome::Reads => false,
+        Outcome::Fails => true,
+        Outcome::Writes => false,
+        Outcome::Rewrites => false,
+    }
+}
+
+fn is_rewrite(k: Outcome) -> bool
+    ensures { λ r. ⌜ r ≡ rewrites k ⌝ }
+{
+    match k {
+        Outcome::Reads => false,
+        Outcome::Fails => false,
+        Outcome::Writes => false,
+        Outcome::Rewrites => true,
+    }
+}
+
+// A rewrite has the rows of a write, so that no row waits for the comparison of the words, by which a rewrite is told from a write.
+fn outcome_number(k: Outcome) -> u8
+    ensures { λ r. ⌜ (r ≡ outcomeNumber k) × (r ≤ 2) ⌝ }
+{
+    2 * bool_number(is_write(k)) + bool_number(is_failed(k))
+}
+
+// What a rewrite takes off the next states of a write's row: in write back, where the port sees E, 2, which makes write-back E of M.
+fn kept_clean(k: Outcome, m: Mode) -> u64
+    ensures { λ r. ⌜ r ≡ keptClean k m ⌝ }
+{
+    choose::choose_word(is_rewrite(k) & (mode_number(m) == 1), 0x0020000000200, 0)
 }
 
 fn mode_number(m: Mode) -> u8
@@ -138,7 +169,7 @@ pub fn own_rule(k: Outcome, m: Mode, shared: bool, dirty: bool, s: u8) -> Coded
     let row = own_row(n);
     let act = nibble(row.1, s);
     Coded {
-        own: nibble(row.0, s),
+        own: nibble(row.0 - kept_clean(k, m), s),
         bus: act % 8,
         stores: 8 <= act,
     }
