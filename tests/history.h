@@ -15,7 +15,7 @@ struct history {
     struct second_model start;
     unsigned skew;
     int fresh; /* a call of fresh comes first, and the flat memory is fed the same orders */
-    int chosen; /* the orders are a test's own, and no random traffic: the stores among them are not counted */
+    int chosen; /* single orders, each on the table in start, and no history: their stores are not counted */
     int totals; /* the orders are counted in a record, which starts with these totals */
     uint64_t totals_start[SECOND_TOTALS];
     uint64_t totals_due[SECOND_TOTALS]; /* those and the sums over the library's answers */

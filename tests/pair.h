@@ -44,7 +44,7 @@ struct tally {
     uint64_t device_writes[3];    /* merged from an owner's word, from memory's with holders, and without */
     uint64_t device_masks[3];     /* 0x00, 0xFF, any other */
     uint64_t device_ports_beyond; /* device writes with a port field that no port has */
-    /* In random traffic: writes and swaps that succeed, by what they met. */
+    /* In histories: writes and swaps that succeed, by what they met. */
     uint64_t stores[2][TALLY_STATES][SECOND_OTHERS][2][2][2]; /* from fresh, own state, others, mode, swap, changed */
     uint64_t same_masks[3];    /* of those that stored the same: 0x00, 0xFF, any other */
     uint64_t same_refused[10]; /* refused orders that would have stored the same, by refusal */

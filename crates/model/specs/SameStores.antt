@@ -50,7 +50,8 @@ others =
     row (swap 0 1 Back 0x0F 7 7) (answer 0 7 1 1 0) 12 0 5 7 ∷
     []
 
--- In write through the word is stored always: on S, on O, shared and alone, on M, and at a miss of a line that another port holds clean or owns.
+-- In write through the word is stored always: on a shared S, on O, shared and alone, on M, and at a miss of a line that another port holds clean
+-- or owns.
 -- At the end a swap that fails takes an owner's word and stores it, as order 13 of the fourteen did when order 12 made an owner.
 unfoldable pub stored : List Row
 stored =

@@ -85,7 +85,7 @@ pub ownerless-kept : Kept ownerless
 unfolding rule snooped everywhere
 ownerless-kept = kept ownerless refl
 
--- What a rewrite does beside what a write does.
+-- What a rewrite does, compared with a write.
 pub rewrites-say : RewritesSay
 unfolding rule
 rewrites-say I m shared dirty = refl

@@ -1,4 +1,4 @@
--- Rows of nibbles: what stands at a state's nibble of a packed row, and the number of a row. Assumes nothing.
+-- Rows of nibbles: what stands at a state's nibble of a packed row, the number of a row, and what a rewrite takes off it. Assumes nothing.
 use Prim.Native.Nat.{ℕ, zero, suc, _+_, _-_, _*_, _/_, _%_, _<_, _≤_}
 use mathlib.Core.Bool.{Bool, true, false}
 use mathlib.Core.Path.{_≡_, refl, sym, _∙_}
@@ -158,7 +158,7 @@ pub back-number : (m : Mode) → eqb (modeNumber m) 1 ≡ isBack m
 back-number Through = refl
 back-number Back = refl
 
--- Of a row the acts are those of the outcome itself, and so are the next states less what is taken off.
+-- Of the row at an outcome's number the acts are those of the outcome itself, and so are the next states, less what is taken off.
 acts-same : (k : Outcome) (m : Mode) (shared dirty : Bool) → ownRow (rowOutcome k) m shared dirty .1 ≡ ownRow k m shared dirty .1
 unfolding ownRow packed pack actNumber rule
 acts-same Reads m shared dirty = refl
