@@ -22,7 +22,7 @@ use Rattle.words.specs.Access.{writes}
 use Rattle.protocol.specs.State.{code, stateOf, isState, orInvalid, isBack}
 use Rattle.protocol.specs.Rules.{rule, snooped, updates}
 use Rattle.protocol.specs.Coded.{busNumber, busAt, coded, pack, nibbleAt, packed, actNumber, ownRow, outcomeNumber, modeNumber, outcomeAt}
-use Rattle.protocol.specs.Coded.{modeAt, ownRowAt, fails, keptClean, snoopRow}
+use Rattle.protocol.specs.Coded.{modeAt, ownRowAt, fails, takenOff, snoopRow}
 use Rattle.words.proofs.Bools.{Is, by-bool, by-cond}
 use Rattle.protocol.proofs.Finite.{at-bus}
 use Rattle.protocol.proofs.States.{code-small, code-stateOf}
@@ -168,11 +168,11 @@ acts-same Rewrites m shared dirty = refl
 
 abbrev Cleaned : Outcome → Mode → Bool → Bool → Type 0
 Cleaned k m shared dirty =
-    (keptClean k m ≤ ownRow (rowOutcome k) m shared dirty .0)
-    × (ownRow (rowOutcome k) m shared dirty .0 - keptClean k m ≡ ownRow k m shared dirty .0)
+    (takenOff k m ≤ ownRow (rowOutcome k) m shared dirty .0)
+    × (ownRow (rowOutcome k) m shared dirty .0 - takenOff k m ≡ ownRow k m shared dirty .0)
 
 cleaned : (k : Outcome) (m : Mode) (shared dirty : Bool) → Cleaned k m shared dirty
-unfolding keptClean ownRow packed pack rule code
+unfolding takenOff ownRow packed pack rule code
 cleaned Reads m shared dirty = (omega arith, omega arith)
 cleaned Fails m shared dirty = (omega arith, omega arith)
 cleaned Writes m shared dirty = (omega arith, omega arith)
@@ -181,14 +181,14 @@ cleaned Rewrites Back true dirty = (omega arith, refl)
 cleaned Rewrites Back false dirty = (omega arith, refl)
 
 -- The row has what is taken off it, and its nibbles are the rule.
-pub row-fits : (k : Outcome) (m : Mode) (shared dirty : Bool) {a b c d kept : ℕ} {row : Row} →
+pub row-fits : (k : Outcome) (m : Mode) (shared dirty : Bool) {a b c d off : ℕ} {row : Row} →
     a ≡ outcomeNumber k → b ≡ modeNumber m → c ≡ bit shared → d ≡ bit dirty → row ≡ ownRowAt (((a * 2 + b) * 2 + c) * 2 + d) →
-    kept ≡ keptClean k m → kept ≤ row .0
+    off ≡ takenOff k m → off ≤ row .0
 row-fits k m shared dirty ea eb ec ed er ek = rw (ek, er, ea, eb, ec, ed, row-at k m shared dirty) (cleaned k m shared dirty .0)
 
-pub own-rule-is : (k : Outcome) (m : Mode) (shared dirty : Bool) (s : ℕ) → Is (isState (stateOf s)) → {a b c d kept x y : ℕ} {row : Row} →
+pub own-rule-is : (k : Outcome) (m : Mode) (shared dirty : Bool) (s : ℕ) → Is (isState (stateOf s)) → {a b c d off x y : ℕ} {row : Row} →
     a ≡ outcomeNumber k → b ≡ modeNumber m → c ≡ bit shared → d ≡ bit dirty → row ≡ ownRowAt (((a * 2 + b) * 2 + c) * 2 + d) →
-    x ≡ nibbleAt (row .1) (s % 16) → kept ≡ keptClean k m → y ≡ nibbleAt (row .0 - kept) (s % 16) →
+    x ≡ nibbleAt (row .1) (s % 16) → off ≡ takenOff k m → y ≡ nibbleAt (row .0 - off) (s % 16) →
     _≡_ {A = Coded} (record { own = y; bus = x % 8; stores = leb 8 x }) (coded (rule k m shared dirty (orInvalid (stateOf s))))
 unfolding ownRow coded
 own-rule-is k m shared dirty s h ea eb ec ed er ex ek ey =

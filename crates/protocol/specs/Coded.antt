@@ -101,8 +101,8 @@ rewrites Writes = false
 rewrites Rewrites = true
 
 -- What a rewrite takes off the next states of a write's row: in write back, where the port sees E, as much as makes write-back E of M.
-unfoldable pub keptClean : Outcome → Mode → ℕ
-keptClean k m = cond (rewrites k && isBack m) (packed (λ s. cond (isE s) (code M - code (E Back)) 0)) 0
+unfoldable pub takenOff : Outcome → Mode → ℕ
+takenOff k m = cond (rewrites k && isBack m) (packed (λ s. cond (isE s) (code M - code (E Back)) 0)) 0
 
 -- The row of the snoop table of a command: what a holder's byte becomes.
 unfoldable pub snoopRow : ℕ → ℕ

@@ -11,7 +11,7 @@ ghost use Rattle.words.specs.Access.{writes};
 ghost use Rattle.protocol.specs.State.{code, stateOf, orInvalid, isState};
 ghost use Rattle.protocol.specs.Rules.{rule, snooped, updates};
 ghost use Rattle.protocol.specs.Coded.{busAt, coded, nibbleAt, outcomeNumber, modeNumber, ownRowAt, snoopRow};
-ghost use Rattle.protocol.specs.Coded.{fails, rewrites, keptClean};
+ghost use Rattle.protocol.specs.Coded.{fails, rewrites, takenOff};
 
 // What a port says to the other holders, or a device to all: nothing; become S in a mode; that, and take the new word; become I; become write-back S,
 // but an owner stays the owner, as O.
@@ -96,7 +96,7 @@ pub fn nibble(row: u64, s: u8) -> u8
     ((row >> (4 * (s % 16))) % 16) as u8
 }
 
-fn is_write(k: Outcome) -> bool
+fn does_write(k: Outcome) -> bool
     ensures { λ r. ⌜ r ≡ writes k ⌝ }
 {
     match k {
@@ -107,7 +107,7 @@ fn is_write(k: Outcome) -> bool
     }
 }
 
-fn is_failed(k: Outcome) -> bool
+fn does_fail(k: Outcome) -> bool
     ensures { λ r. ⌜ r ≡ fails k ⌝ }
 {
     match k {
@@ -118,7 +118,7 @@ fn is_failed(k: Outcome) -> bool
     }
 }
 
-fn is_rewrite(k: Outcome) -> bool
+fn does_rewrite(k: Outcome) -> bool
     ensures { λ r. ⌜ r ≡ rewrites k ⌝ }
 {
     match k {
@@ -129,18 +129,18 @@ fn is_rewrite(k: Outcome) -> bool
     }
 }
 
-// A rewrite has the rows of a write, so that no row waits for the comparison of the words, by which a rewrite is told from a write.
+// A rewrite has the rows of a write: rows of its own would cost every miss (docs/DECISIONS.md).
 fn outcome_number(k: Outcome) -> u8
     ensures { λ r. ⌜ (r ≡ outcomeNumber k) × (r ≤ 2) ⌝ }
 {
-    2 * bool_number(is_write(k)) + bool_number(is_failed(k))
+    2 * bool_number(does_write(k)) + bool_number(does_fail(k))
 }
 
 // What a rewrite takes off the next states of a write's row: in write back, where the port sees E, 2, which makes write-back E of M.
-fn kept_clean(k: Outcome, m: Mode) -> u64
-    ensures { λ r. ⌜ r ≡ keptClean k m ⌝ }
+fn taken_off(k: Outcome, m: Mode) -> u64
+    ensures { λ r. ⌜ r ≡ takenOff k m ⌝ }
 {
-    choose::choose_word(is_rewrite(k) & (mode_number(m) == 1), 0x0020000000200, 0)
+    choose::choose_word(does_rewrite(k) & (mode_number(m) == 1), 0x0020000000200, 0)
 }
 
 fn mode_number(m: Mode) -> u8
@@ -169,7 +169,7 @@ pub fn own_rule(k: Outcome, m: Mode, shared: bool, dirty: bool, s: u8) -> Coded
     let row = own_row(n);
     let act = nibble(row.1, s);
     Coded {
-        own: nibble(row.0 - kept_clean(k, m), s),
+        own: nibble(row.0 - taken_off(k, m), s),
         bus: act % 8,
         stores: 8 <= act,
     }

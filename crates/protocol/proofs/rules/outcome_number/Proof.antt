@@ -7,8 +7,8 @@ use Rattle.protocol.proofs.rules.outcome_number.Tie as tie
 returns : tie.Need-returns
 returns c =
     let start : tie.Start = search in
-    outcome-number-is (start .args .k) (c .before .before .before .is-write .ensures) (c .before .before .bool-number .ensures .0)
-    (c .before .is-failed .ensures) (c .bool-number2 .ensures .0)
+    outcome-number-is (start .args .k) (c .before .before .before .does-write .ensures) (c .before .before .bool-number .ensures .0)
+    (c .before .does-fail .ensures) (c .bool-number2 .ensures .0)
 
 pub outcome-number-spec : {M : Type 1} → statement M
 outcome-number-spec =
