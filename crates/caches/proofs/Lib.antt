@@ -1,6 +1,5 @@
 -- Laws of one order on a line, that the proofs of functions cite.
 pub mod Applied
-pub mod Supplied
-pub mod Decisions
+pub mod Carried
 pub mod Flushes
 pub mod Devices

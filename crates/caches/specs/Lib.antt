@@ -1,2 +1,2 @@
--- What an access comes to before anything is written.
-pub mod Decision
+-- What a decision carried out leaves.
+pub mod Carried

@@ -1,7 +1,6 @@
 // A device: it reads main memory behind the caches, and the holders of a line hear when it writes.
-use crate::answer;
 use crate::memory;
-use crate::supply;
+use decision::supply;
 use model::answer::Answer;
 use ports::bus;
 use ports::entry;
@@ -24,7 +23,7 @@ pub fn device_read(memory: &[u8], a: usize) -> Answer
     requires { ⌜ 8 * a + 8 ≤ length (now memory) ⌝ }
     ensures { λ r. ⌜ r ≡ accepted (wordIn (now (memory .entry)) a) 0 1 0 ⌝ }
 {
-    answer::accept(entry::word_at(memory, a), false, true, false, false)
+    answers::accept(entry::word_at(memory, a), false, true, false, false)
 }
 
 // A device write, from what the ports say of the line; every entry is sound. The holders hear the command as from a port.
@@ -52,5 +51,5 @@ pub fn device_write(
     let command = rules::invalidate();
     bus::ask(tags, states, words, line, said.holders, command, w);
     memory::store_if(memory, line.shape.lines, true, line.number, w);
-    answer::accept(0, false, !dirty, false, true)
+    answers::accept(0, false, !dirty, false, true)
 }

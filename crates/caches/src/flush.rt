@@ -1,5 +1,4 @@
 // A flush by a port.
-use crate::answer;
 use crate::memory;
 use model::answer::Answer;
 use ports::entry;
@@ -50,5 +49,5 @@ pub fn flush_line(
     let w = entry::word_at(words, at);
     empty_if(states, held, at);
     memory::store_if(memory, line.shape.lines, stores, line.number, w);
-    answer::accept(0, false, false, false, stores)
+    answers::accept(0, false, false, false, stores)
 }

@@ -1,62 +1,15 @@
 // The C interface: step, step with totals, fresh and audit on numbers and byte slices, as include/moesi.h declares them. Each returns its
 // refusal, 0 if none.
 // All that is asked of the caller is that the slices have the lengths that it says and share no byte with one another.
-use caches::answer;
 use counters::lent;
-use model::answer::Answer;
 use model::shape::Shape;
 ghost use mathlib.Core.Path.{_≡_};
-ghost use mathlib.Core.Bool.{true};
-ghost use lib.ListN.{length};
 ghost use mathlib.Core.List.{[]};
 ghost use Rattle.words.specs.Bools.{bit};
-ghost use Rattle.model.specs.Shape.{inRange};
 ghost use Rattle.decode.specs.Order.{order};
 ghost use Rattle.ports.specs.Bytes.{bytes};
-ghost use Rattle.moesi.specs.Host.{bytesFit, refusalBy, answerBytes, hosted, hostStep, hostFresh, hostAudit};
-ghost use Rattle.moesi.specs.Totals.{refusalPut, countsIn, withRecord, hostStepTotals};
-
-// The lengths of the slices in bytes are those of the shape.
-fn bytes_fit(shape: Shape, memory: usize, tags: usize, states: usize, data: usize) -> bool
-    requires { ⌜ inRange shape ≡ true ⌝ }
-    ensures { λ r. ⌜ r ≡ bytesFit shape memory tags states «data» ⌝ }
-{
-    let n = shape.entries();
-    (memory == 8 * shape.lines) & (tags == 4 * n) & (states == n) & (data == 8 * n)
-}
-
-// Refusal 2 or 3 of a shape and the lengths of the slices, else 0; out says that the slice written to has its length.
-fn refusal_by(
-    shape: Shape,
-    memory: usize,
-    tags: usize,
-    states: usize,
-    data: usize,
-    out: bool,
-) -> u64
-    ensures { λ r. ⌜ r ≡ refusalBy shape memory tags states «data» out ⌝ }
-{
-    if shape.is_in_range() {
-        if bytes_fit(shape, memory, tags, states, data) & out {
-            return 0;
-        }
-        return 3;
-    }
-    2
-}
-
-// The five numbers, 64 bits each.
-fn put_answer(out: &mut [u8], refusal: u64, value: u64, swapped: u64, reads: u64, writes: u64)
-    requires { ⌜ length (now out) ≡ 40 ⌝ }
-    ensures { λ r. ⌜ now (out .exit) ≡ answerBytes
-        (record { refusal = refusal; value = value; swapped = swapped; reads = reads; writes = writes }) ⌝ }
-{
-    endian::write_eight(out, 0, refusal);
-    endian::write_eight(out, 8, value);
-    endian::write_eight(out, 16, swapped);
-    endian::write_eight(out, 24, reads);
-    endian::write_eight(out, 32, writes);
-}
+ghost use Rattle.host.specs.Host.{hosted, hostStep, hostFresh, hostAudit};
+ghost use Rattle.host.specs.Totals.{withRecord, hostStepTotals};
 
 // One order: its five numbers go to answer, those of a refused order too. An answer of another length than 40 bytes is left alone.
 #[no_mangle]
@@ -78,7 +31,7 @@ pub extern "C" fn moesi_step(
 {
     let shape = Shape { ports, sets, lines };
     let out = answer.len() == 40;
-    let n = refusal_by(
+    let n = lengths::refusal_by(
         shape,
         memory.len(),
         tags.len(),
@@ -88,40 +41,13 @@ pub extern "C" fn moesi_step(
     );
     if n != 0 {
         if out {
-            put_answer(answer, n, 0, 0, 0, 0);
+            answers::put_answer(answer, n, 0, 0, 0, 0);
         }
         return n;
     }
     let a = step::step_order(shape, memory, tags, states, data, word, operand);
-    put_answer(answer, a.refusal, a.value, a.swapped, a.reads, a.writes);
+    answers::put_answer(answer, a.refusal, a.value, a.swapped, a.reads, a.writes);
     a.refusal
-}
-
-// A refusal's five numbers, where the slice has its 40 bytes; one of another length is left alone.
-fn put_refusal(out: &mut [u8], n: u64)
-    ensures { λ r. ⌜ now (out .exit) ≡ refusalPut n (now (out .entry)) ⌝ }
-{
-    if out.len() == 40 {
-        put_answer(out, n, 0, 0, 0, 0);
-    }
-}
-
-// What is counted of a call of step that returned n: its refusal, or, of an accepted order, the numbers that it wrote. The value is not
-// counted.
-fn counts_in(n: u64, out: &[u8]) -> Answer
-    requires { ⌜ (n ≡ 0 → length (now out) ≡ 40) ⌝ }
-    ensures { λ r. ⌜ r ≡ countsIn n (now (out .entry)) ⌝ }
-{
-    if n != 0 {
-        return answer::refuse(n);
-    }
-    Answer {
-        refusal: 0,
-        value: 0,
-        swapped: endian::read_eight(out, 16),
-        reads: endian::read_eight(out, 24),
-        writes: endian::read_eight(out, 32),
-    }
 }
 
 // One order with a record of totals, which is brought up to date. Refusal 9 comes first of all, where the record has its length and a total
@@ -148,7 +74,7 @@ pub extern "C" fn moesi_step_totals(
 {
     if totals.len() != lent::RECORD_BYTES {
         let shape = Shape { ports, sets, lines };
-        let n = refusal_by(
+        let n = lengths::refusal_by(
             shape,
             memory.len(),
             tags.len(),
@@ -156,11 +82,11 @@ pub extern "C" fn moesi_step_totals(
             data.len(),
             false,
         );
-        put_refusal(answer, n);
+        host::put_refusal(answer, n);
         return n;
     }
     if lent::is_full(totals) {
-        put_refusal(answer, 9);
+        host::put_refusal(answer, 9);
         return 9;
     }
     let n = moesi_step(
@@ -175,7 +101,7 @@ pub extern "C" fn moesi_step_totals(
         data,
         answer,
     );
-    let a = counts_in(n, answer);
+    let a = host::counts_in(n, answer);
     lent::count(totals, decode::kind_of(word), a);
     n
 }
@@ -196,7 +122,7 @@ pub extern "C" fn moesi_fresh(
         (bytes (now (memory .entry)) (now (tags .entry)) (now (states .entry)) (now («data» .entry))) ⌝ }
 {
     let shape = Shape { ports, sets, lines };
-    let n = refusal_by(
+    let n = lengths::refusal_by(
         shape,
         memory.len(),
         tags.len(),
@@ -237,7 +163,7 @@ pub extern "C" fn moesi_audit(
 {
     let shape = Shape { ports, sets, lines };
     let out = verdict.len() == 1;
-    let n = refusal_by(
+    let n = lengths::refusal_by(
         shape,
         memory.len(),
         tags.len(),

@@ -1,6 +1,5 @@
 // One order on main memory and tables in bytes of the right lengths.
 use caches::access;
-use caches::answer;
 use caches::device;
 use caches::flush;
 use model::answer::Answer;
@@ -35,14 +34,14 @@ fn perform_call(
         Call::ByPort(acc, m, i) => {
             let look = survey::look_at(shape, tags, states, words, a);
             if look.refusal != 0 {
-                return answer::refuse(look.refusal);
+                return answers::refuse(look.refusal);
             }
             access::access_line(memory, tags, states, words, look.line, i, look.said, acc, m)
         }
         Call::Flush(i) => {
             let look = survey::look_at(shape, tags, states, words, a);
             if look.refusal != 0 {
-                return answer::refuse(look.refusal);
+                return answers::refuse(look.refusal);
             }
             flush::flush_line(memory, tags, states, words, look.line, i, look.said)
         }
@@ -50,7 +49,7 @@ fn perform_call(
         Call::DeviceWrite(mask, x) => {
             let look = survey::look_at(shape, tags, states, words, a);
             if look.refusal != 0 {
-                return answer::refuse(look.refusal);
+                return answers::refuse(look.refusal);
             }
             device::device_write(memory, tags, states, words, look.line, look.said, mask, x)
         }
@@ -74,7 +73,7 @@ pub fn step_order(
 {
     let d = decode::decode_order(shape, w, x);
     let Decoded::Asked(call, a) = d else {
-        return answer::refuse(decode::refusal_of(d));
+        return answers::refuse(decode::refusal_of(d));
     };
     perform_call(shape, memory, tags, states, words, call, a)
 }

@@ -3,7 +3,8 @@ use borrow.Author.Needs.{needs}
 use native.Mathlib.Omega.{arith}
 use lib.ListN.{length}
 use borrow.Author.Tests.{eqb-true}
-use Rattle.moesi.proofs.Host.{out-fits, audit-fits, audit-accepted, audit-refused, audit-left}
+use Rattle.lengths.proofs.Lengths.{out-fits}
+use Rattle.host.proofs.Host.{audit-fits, audit-accepted, audit-refused, audit-left}
 use Rattle.moesi.proofs.moesi_audit.Statement.{statement}
 use Rattle.moesi.proofs.moesi_audit.Tie as tie
 

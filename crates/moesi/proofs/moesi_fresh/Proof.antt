@@ -1,7 +1,7 @@
 -- The tables are cleared, or a refusal leaves them. Assumes nothing.
 use borrow.Author.Needs.{needs}
 use native.Mathlib.Omega.{arith}
-use Rattle.moesi.proofs.Host.{fresh-accepted, fresh-refused}
+use Rattle.host.proofs.Host.{fresh-accepted, fresh-refused}
 use Rattle.moesi.proofs.moesi_fresh.Statement.{statement}
 use Rattle.moesi.proofs.moesi_fresh.Tie as tie
 

@@ -3,7 +3,8 @@ use borrow.Author.Needs.{needs}
 use native.Mathlib.Omega.{arith}
 use mathlib.Core.Path.{sym, _∙_}
 use borrow.Author.Tests.{eqb-true}
-use Rattle.moesi.proofs.Host.{fitting, out-fits, step-accepted, step-answered, step-unanswered}
+use Rattle.lengths.proofs.Lengths.{out-fits}
+use Rattle.host.proofs.Host.{fitting, step-accepted, step-answered, step-unanswered}
 use Rattle.moesi.proofs.moesi_step.Statement.{statement}
 use Rattle.moesi.proofs.moesi_step.Tie as tie
 

@@ -2,7 +2,7 @@
 use borrow.Author.Needs.{needs}
 use mathlib.Core.Path.{sym, _∙_}
 use native.Mathlib.Omega.{arith}
-use Rattle.moesi.proofs.Totals.{accepted-wide, read-few, record-misfit, record-full, record-counted}
+use Rattle.host.proofs.Totals.{accepted-wide, read-few, record-misfit, record-full, record-counted}
 use Rattle.moesi.proofs.moesi_step_totals.Statement.{statement}
 use Rattle.moesi.proofs.moesi_step_totals.Tie as tie
 

@@ -2,7 +2,7 @@
 use borrow.Author.Needs.{needs}
 use Rattle.ports.specs.Bytes.{bytes, tablesIn}
 use Rattle.ports.proofs.Surveys.{masks-states}
-use Rattle.caches.proofs.Decisions.{founded, access-done}
+use Rattle.caches.proofs.Carried.{founded, access-done}
 use Rattle.caches.proofs.access.access_line.Statement.{statement}
 use Rattle.caches.proofs.access.access_line.Tie as tie
 

@@ -4,7 +4,7 @@ use native.Mathlib.Omega.{arith}
 use Rattle.ports.specs.Bytes.{tablesIn}
 use Rattle.ports.proofs.Places.{few, there, small, room}
 use Rattle.ports.proofs.Surveys.{masks-hit, masks-own, masks-states}
-use Rattle.caches.proofs.Supplied.{entry-word}
+use Rattle.decision.proofs.Supplied.{entry-word}
 use Rattle.caches.proofs.Flushes.{flush-done}
 use Rattle.caches.proofs.flush.flush_line.Statement.{statement}
 use Rattle.caches.proofs.flush.flush_line.Tie as tie

@@ -1,0 +1,2 @@
+-- An answer in bytes.
+pub mod Answers

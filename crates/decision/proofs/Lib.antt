@@ -1,0 +1,3 @@
+-- Laws of a decision, that the proofs of functions cite.
+pub mod Supplied
+pub mod Decisions

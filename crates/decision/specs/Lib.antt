@@ -1,0 +1,2 @@
+-- What an access comes to before anything is written.
+pub mod Decision

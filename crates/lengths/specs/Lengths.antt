@@ -1,0 +1,19 @@
+-- Refusals 2 and 3 of what a host lends: the shape, and the lengths of the slices in bytes, eight for a word, four for a tag, one for a state.
+use Prim.Native.Nat.{ℕ, _*_}
+use mathlib.Core.Bool.{Bool, cond, _&&_}
+use lib.Dec.{eqb}
+use Rattle.model.specs.declared.shape.Shape.{Shape}
+use Rattle.model.specs.Shape.{inRange, entries}
+
+-- Tables of these lengths have exactly the bytes of the entries that the shape gives.
+unfoldable pub tablesFit : Shape → ℕ → ℕ → ℕ → Bool
+tablesFit s tags states words = eqb tags (4 * entries s) && eqb states (entries s) && eqb words (8 * entries s)
+
+-- Main memory too.
+unfoldable pub bytesFit : Shape → ℕ → ℕ → ℕ → ℕ → Bool
+bytesFit s memory tags states words = eqb memory (8 * s .lines) && tablesFit s tags states words
+
+-- Refusal 2, a number of the shape outside its range; refusal 3, another length of a slice; else 0. `out` says that the slice written to
+-- has its length.
+unfoldable pub refusalBy : Shape → ℕ → ℕ → ℕ → ℕ → Bool → ℕ
+refusalBy s memory tags states words out = cond (inRange s) (cond (bytesFit s memory tags states words && out) 0 3) 2

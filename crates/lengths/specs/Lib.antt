@@ -1,0 +1,2 @@
+-- Refusals 2 and 3 of what a host lends.
+pub mod Lengths

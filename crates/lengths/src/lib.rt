@@ -1,0 +1,43 @@
+// Refusals 2 and 3 of what a host lends: the shape, and the lengths of the slices in bytes.
+use model::shape::Shape;
+ghost use mathlib.Core.Path.{_≡_};
+ghost use mathlib.Core.Bool.{true};
+ghost use Rattle.model.specs.Shape.{inRange};
+ghost use Rattle.lengths.specs.Lengths.{tablesFit, bytesFit, refusalBy};
+
+// The lengths of the three tables in bytes are those of the shape.
+pub fn tables_fit(shape: Shape, tags: usize, states: usize, data: usize) -> bool
+    requires { ⌜ inRange shape ≡ true ⌝ }
+    ensures { λ r. ⌜ r ≡ tablesFit shape tags states «data» ⌝ }
+{
+    let n = shape.entries();
+    (tags == 4 * n) & (states == n) & (data == 8 * n)
+}
+
+// Main memory has its length too.
+fn bytes_fit(shape: Shape, memory: usize, tags: usize, states: usize, data: usize) -> bool
+    requires { ⌜ inRange shape ≡ true ⌝ }
+    ensures { λ r. ⌜ r ≡ bytesFit shape memory tags states «data» ⌝ }
+{
+    (memory == 8 * shape.lines) & tables_fit(shape, tags, states, data)
+}
+
+// Refusal 2 or 3 of a shape and the lengths of the slices, else 0; out says that the slice written to has its length.
+pub fn refusal_by(
+    shape: Shape,
+    memory: usize,
+    tags: usize,
+    states: usize,
+    data: usize,
+    out: bool,
+) -> u64
+    ensures { λ r. ⌜ r ≡ refusalBy shape memory tags states «data» out ⌝ }
+{
+    if shape.is_in_range() {
+        if bytes_fit(shape, memory, tags, states, data) & out {
+            return 0;
+        }
+        return 3;
+    }
+    2
+}
