@@ -1,10 +1,12 @@
-/* Times the library and three models in C on the same orders, in turn, in one process; then the step with a record. */
+/* Times the library and three models in C on the same orders, in turn, in one process; then the step with a record, and
+   the conversions of old tables. */
 
 #define _POSIX_C_SOURCE 200809L
 
 #include "../tests/generator.h"
 #include "../tests/second_model.h"
 #include "moesi.h"
+#include "plain_edition.h"
 #include "plain_model.h"
 #include "walking_model.h"
 
@@ -20,6 +22,9 @@ enum subject { LIBRARY, PLAIN, WALKING, SECOND, SUBJECTS };
 /* The byte models come before the second model. In the table of totals each is timed by its step and, BYTE_MODELS
    further on, by its step with a record. */
 enum { BYTE_MODELS = SECOND, STEPS = 2 * BYTE_MODELS };
+
+/* The library and plain C convert, each with tables of its own; the old set is where the walking model's tables are. */
+enum { CONVERTERS = PLAIN + 1, OLD_SET = WALKING };
 
 /* What one of the byte models works on; the second model has arrays of its own. */
 struct bytes {
@@ -49,11 +54,15 @@ typedef uint64_t totals_call(uint64_t, uint64_t, uint64_t, uint64_t, uint64_t, u
                              uint8_t *, size_t, uint8_t *, size_t, uint8_t *, size_t, uint8_t *, size_t);
 typedef uint64_t audit_call(uint64_t, uint64_t, uint64_t, const uint8_t *, size_t, const uint8_t *, size_t,
                             const uint8_t *, size_t, const uint8_t *, size_t, uint8_t *, size_t);
+typedef uint64_t convert_call(uint64_t, uint64_t, uint64_t, const uint8_t *, size_t, const uint8_t *, size_t,
+                              const uint8_t *, size_t, uint8_t *, size_t, uint8_t *, size_t, uint8_t *, size_t);
 
 static fresh_call *const fresh_calls[BYTE_MODELS] = {moesi_fresh, plain_fresh, walking_fresh};
 static step_call *const step_calls[BYTE_MODELS] = {moesi_step, plain_step, walking_step};
 static totals_call *const totals_calls[BYTE_MODELS] = {moesi_step_totals, plain_step_totals, walking_step_totals};
 static audit_call *const audit_calls[BYTE_MODELS] = {moesi_audit, plain_audit, walking_audit};
+static convert_call *const from_old_calls[CONVERTERS] = {moesi_from_old, plain_from_old};
+static convert_call *const to_old_calls[CONVERTERS] = {moesi_to_old, plain_to_old};
 
 /* One round of each call, by the number of who does it: the work that is timed. */
 
@@ -125,6 +134,27 @@ static void audit_round(struct bench *bench, int subject)
                                     b->tags, n.tags, b->states, n.states, b->data, n.data, b->verdict,
                                     sizeof b->verdict);
     bench->sink += sum;
+}
+
+static void convert_round(struct bench *bench, convert_call *call, const struct bytes *from, const struct bytes *to)
+{
+    struct second_lengths n = bench->lengths;
+    uint64_t sum = 0;
+
+    for (size_t k = 0; k < bench->count; k++)
+        sum += call(bench->shape.ports, bench->shape.sets, bench->shape.lines, from->tags, n.tags, from->states,
+                    n.states, from->data, n.data, to->tags, n.tags, to->states, n.states, to->data, n.data);
+    bench->sink += sum;
+}
+
+static void from_old_round(struct bench *bench, int subject)
+{
+    convert_round(bench, from_old_calls[subject], &bench->bytes[OLD_SET], &bench->bytes[subject]);
+}
+
+static void to_old_round(struct bench *bench, int subject)
+{
+    convert_round(bench, to_old_calls[subject], &bench->bytes[subject], &bench->bytes[OLD_SET]);
 }
 
 /* Timing. */
@@ -507,6 +537,50 @@ static int print_totals(struct bench *bench)
     return agree;
 }
 
+/* The table of conversions. */
+
+static void print_conversion_row(const struct bench *bench, const char *what, const double best[CONVERTERS])
+{
+    print_shape(bench->shape);
+    printf("%-19s %11.0f %11.0f %9.2f\n", what, 1 / best[LIBRARY], 1 / best[PLAIN], best[LIBRARY] / best[PLAIN]);
+}
+
+/* An old set of letters in no pattern, to this edition and back. */
+static int time_conversions(struct bench *bench, struct second_shape shape)
+{
+    struct generator generator = generator_of(shape);
+    struct second_lengths n;
+    double best[CONVERTERS];
+    int agree;
+
+    start(bench, shape);
+    n = bench->lengths;
+    for (size_t k = 0; k < n.states; k++)
+        bench->bytes[OLD_SET].states[k] = (uint8_t)generator_below(&generator, 5);
+    bench->count = n.states < 64 ? 1024 : 256;
+    time_orders(bench, from_old_round, CONVERTERS, best);
+    print_conversion_row(bench, "from the old", best);
+    agree = memcmp(bench->bytes[LIBRARY].states, bench->bytes[PLAIN].states, n.states) == 0 &&
+            memcmp(bench->bytes[LIBRARY].tags, bench->bytes[PLAIN].tags, n.tags) == 0 &&
+            memcmp(bench->bytes[LIBRARY].data, bench->bytes[PLAIN].data, n.data) == 0;
+    time_orders(bench, to_old_round, CONVERTERS, best);
+    print_conversion_row(bench, "to the old", best);
+    if (!agree)
+        printf("the converted tables differ at this shape\n");
+    return agree;
+}
+
+static int print_conversions(struct bench *bench)
+{
+    int agree = 1;
+
+    printf("\n%-10s %-19s %11s %11s %9s\n", "shape", "calls per second of", "library", "plain", "lib/plain");
+    for (int k = 0; k < 5; k++)
+        agree &= time_conversions(bench, shapes[k]);
+    printf("The last column is time over time, of a conversion of three tables by the library over one in plain C.\n");
+    return agree;
+}
+
 int main(int argc, char **argv)
 {
     static struct bench bench;
@@ -524,6 +598,7 @@ int main(int argc, char **argv)
         bench.bytes[k] = all[k];
     agree = print_models(&bench, &all[BYTE_MODELS]);
     agree &= print_totals(&bench);
+    agree &= print_conversions(&bench);
     for (int k = 0; k <= BYTE_MODELS; k++) {
         free(all[k].memory);
         free(all[k].tags);

@@ -14,9 +14,10 @@
  *     if (moesi_model_init(&m, 2, 4, 16, memory, sizeof memory, room, sizeof room) == MOESI_ACCEPTED)
  *         moesi_model_step(&m, moesi_order_write(1, 0, MOESI_WRITE_BACK, 0xFF), 9);
  *
- * moesi_fresh, moesi_step, moesi_step_totals and moesi_audit are what is proved,
- * and what the struct calls. They are for programs that lay out their own tables;
- * their argument lists grow with the model.
+ * moesi_fresh, moesi_step, moesi_step_totals, moesi_audit, moesi_from_old and
+ * moesi_to_old are what is proved, and what the struct calls. They are for
+ * programs that lay out their own tables; the argument lists of the first four
+ * grow with the model.
  *
  * The model
  * =========
@@ -55,8 +56,9 @@
  * --------
  *
  * Each call returns 0, or the number of the first of these that applies, in this
- * order. Fresh and the audit give 2 and 3 only; 1 belongs to the programs trace
- * and totals.
+ * order. Fresh and the audit give 2 and 3 only, the steps 2 to 8 and
+ * moesi_step_totals also 9, moesi_from_old 2, 3 and 10, moesi_to_old 2, 3, 10 and
+ * 11; 1 belongs to the programs trace and totals.
  *
  *   9  moesi_step_totals alone, and before every other: the record has its length,
  *      and some total in it is above MOESI_MOST_TOTAL, 2^64 - 3
@@ -74,10 +76,15 @@
  *      isn't invalid and has a home line not below lines (asked of every kind but
  *      a device read). A model that starts fresh, and whose memory and tables
  *      nobody but moesi_step and moesi_step_totals writes, never gives it.
+ *  10  moesi_from_old: some byte of the old state table is above 4;
+ *      moesi_to_old: some byte of the state table is no state
+ *  11  moesi_to_old: some entry is in write through. Wherever the two stand, a
+ *      byte that is no state is told before it.
  *
  * A refused call changes no lent byte but the answer (number and four zeros), the
  * verdict (0), or the record (the refused order is counted, unless the refusal is
- * 9). An answer, a verdict or a record of another length is left alone.
+ * 9). An answer, a verdict or a record of another length is left alone, and so are
+ * the tables that a refused conversion was to write.
  *
  * What a device sees
  * ------------------
@@ -153,6 +160,34 @@
  * leaves what moesi_step does; else memory and tables stay as they were. So what
  * is said above of a model's memory and tables holds of calls with and without a
  * record alike.
+ *
+ * Tables of the old edition
+ * -------------------------
+ *
+ * The old edition had five states and no mode: bytes 0 I, 1 S, 2 E, 3 O, 4 M
+ * (MOESI_OLD_ below), beside the same tags and data. moesi_from_old makes tables
+ * of this edition out of saved ones, with every held entry in write back, and
+ * moesi_to_old makes old ones again, where no entry is in write through. Tags and
+ * data are copied as they are, also those of entries that are invalid. No home
+ * line and no memory is looked at, so a set that was wrong before is wrong in the
+ * same way after: audit what was converted, beside its main memory, before the
+ * first order.
+ *
+ * This is proved: there and back, in either direction, gives the bytes that there
+ * were, where the first way is not refused. And a converted set, beside a main
+ * memory of its length, passes moesi_audit exactly when the old one, beside the
+ * same, keeps the audit's rules read on the five letters: every
+ * byte is at most 4 and every home line is below lines; holders of a line have
+ * equal words; a line held in E or M has one holder; a line has at most one O; a
+ * held line without an owner equals memory.
+ *
+ * What this page says of a model that starts fresh is not said of one that starts
+ * from converted tables: a line that is O or M in them was written in write back
+ * before the first order here, and a device may read it wrong until it is stored.
+ * moesi_model_clean looks.
+ *
+ * The output tables are other bytes than the input tables: a set is not converted
+ * in its place.
  */
 
 #ifndef MOESI_H
@@ -213,6 +248,13 @@
 #define MOESI_OWNED 11u
 #define MOESI_MODIFIED 12u
 
+/* State bytes of the old edition, which has no mode. */
+#define MOESI_OLD_INVALID 0u
+#define MOESI_OLD_SHARED 1u
+#define MOESI_OLD_EXCLUSIVE 2u
+#define MOESI_OLD_OWNED 3u
+#define MOESI_OLD_MODIFIED 4u
+
 /* Refusals, in checking order. */
 #define MOESI_ACCEPTED 0u
 #define MOESI_REFUSED_TRACE 1u
@@ -223,6 +265,8 @@
 #define MOESI_REFUSED_LINE 6u
 #define MOESI_REFUSED_MASK 7u
 #define MOESI_REFUSED_ENTRY 8u
+#define MOESI_REFUSED_STATE 10u
+#define MOESI_REFUSED_THROUGH 11u
 
 /* The refusal of a record that is full, which comes before every other. */
 #define MOESI_REFUSED_TOTALS 9u
@@ -284,6 +328,28 @@ uint64_t moesi_audit(uint64_t ports, uint64_t sets, uint64_t lines,
                      const uint8_t *states, size_t states_len,
                      const uint8_t *data, size_t data_len,
                      uint8_t *verdict, size_t verdict_len);
+
+/*
+ * Makes tables of this edition out of tables of the old one: tags and data are
+ * copied, and every held entry is in write back. Where it refuses, the output
+ * tables stay as they were.
+ */
+uint64_t moesi_from_old(uint64_t ports, uint64_t sets, uint64_t lines,
+                        const uint8_t *tags, size_t tags_len,
+                        const uint8_t *states, size_t states_len,
+                        const uint8_t *data, size_t data_len,
+                        uint8_t *tags_out, size_t tags_out_len,
+                        uint8_t *states_out, size_t states_out_len,
+                        uint8_t *data_out, size_t data_out_len);
+
+/* The way back: tables of the old edition out of tables of this one, where no entry is in write through. */
+uint64_t moesi_to_old(uint64_t ports, uint64_t sets, uint64_t lines,
+                      const uint8_t *tags, size_t tags_len,
+                      const uint8_t *states, size_t states_len,
+                      const uint8_t *data, size_t data_len,
+                      uint8_t *tags_out, size_t tags_out_len,
+                      uint8_t *states_out, size_t states_out_len,
+                      uint8_t *data_out, size_t data_out_len);
 
 #ifdef __cplusplus
 }
@@ -522,7 +588,7 @@ static inline size_t moesi_tables_bytes(uint64_t ports, uint64_t sets, uint64_t 
  * A model over memory and tables as they are: bytes that were saved, or a copy
  * of a model's memory and room to try orders on. How the tables lie in the room
  * is this edition's own, so saved bytes go with the header and the shape that
- * they were cut by; who has the tables apart uses the three calls. Tables that
+ * they were cut by; who has the tables apart uses the calls on slices. Tables that
  * nobody vouches for are audited first (moesi_model_passes). Memory and the room
  * share no byte. Returns 0, or
  *
@@ -599,6 +665,40 @@ static inline int moesi_model_passes(const struct moesi_model *m)
     moesi_audit(m->ports, m->sets, m->lines, m->memory, m->sizes.memory, m->tags, m->sizes.tags, m->states,
                 m->sizes.states, m->data, m->sizes.data, &verdict, MOESI_VERDICT_BYTES);
     return verdict == 1;
+}
+
+/*
+ * Tables of the old edition
+ * -------------------------
+ *
+ * Each is given a pointer and a length for tags, states and data of the old set,
+ * of the model's shape (moesi_sizes_of says how many bytes each has), none of
+ * them the model's own bytes.
+ */
+
+/*
+ * The model's tables become those of an old set; its main memory stays. Returns
+ * what moesi_from_old does, and a refused set leaves the model as it was. A set
+ * that nobody vouches for is audited before the first order (moesi_model_passes).
+ */
+static inline uint64_t moesi_model_from_old(struct moesi_model *m, const uint8_t *tags, size_t tags_len,
+                                            const uint8_t *states, size_t states_len, const uint8_t *data,
+                                            size_t data_len)
+{
+    return moesi_from_old(m->ports, m->sets, m->lines, tags, tags_len, states, states_len, data, data_len, m->tags,
+                          m->sizes.tags, m->states, m->sizes.states, m->data, m->sizes.data);
+}
+
+/*
+ * The model's tables, written as an old set. Returns what moesi_to_old does, 11
+ * where some entry is in write through; where it refuses, the bytes stay as they
+ * were. The model does not change.
+ */
+static inline uint64_t moesi_model_to_old(const struct moesi_model *m, uint8_t *tags, size_t tags_len,
+                                          uint8_t *states, size_t states_len, uint8_t *data, size_t data_len)
+{
+    return moesi_to_old(m->ports, m->sets, m->lines, m->tags, m->sizes.tags, m->states, m->sizes.states, m->data,
+                        m->sizes.data, tags, tags_len, states, states_len, data, data_len);
 }
 
 /*

@@ -24,9 +24,11 @@ int report_call(struct tester *tester, const char *what, struct second_shape sha
 
     printf("  %s: shape %" PRIu64 " %" PRIu64 " %" PRIu64 ", word 0x%" PRIx64 " operand 0x%" PRIx64 "\n", what,
            shape.ports, shape.sets, shape.lines, word, operand);
-    printf("  lengths: memory %zu, tags %zu, states %zu, data %zu, result %zu, record %zu\n", slices[MEMORY].length,
+    printf("  lengths: memory %zu, tags %zu, states %zu, data %zu, result %zu, record %zu", slices[MEMORY].length,
            slices[TAGS].length, slices[STATES].length, slices[DATA].length, slices[RESULT].length,
            slices[RECORD].length);
+    printf(", old tags %zu, states %zu, data %zu\n", slices[OLD_TAGS].length, slices[OLD_STATES].length,
+           slices[OLD_DATA].length);
     printf("%s", tester->pair.difference);
     return 0;
 }
@@ -807,9 +809,9 @@ static size_t wrong_length(struct generator *generator, size_t length, size_t en
 /* An empty slice is sometimes NULL. */
 void misplace(struct tester *tester, unsigned wrong)
 {
-    static const size_t entry_bytes[4] = {8, 4, 1, 8};
+    static const size_t entry_bytes[SLICES] = {8, 4, 1, 8, 0, 0, 4, 1, 8};
 
-    for (unsigned s = MEMORY; s <= DATA; s++) {
+    for (unsigned s = 0; s < SLICES; s++) {
         size_t length = tester->pair.slices[s].length;
 
         if (!(wrong >> s & 1))
@@ -938,6 +940,12 @@ static const struct group groups[] = {
     {"totals are the sums over the answers", totals_histories, 2000, 1},
     {"records of any totals", totals_records, 12000, 1},
     {"records and answers of other lengths", totals_lengths, 12000, 1},
+    {"tables of the old edition, byte by byte", edition_numbers, EDITION_PARTS, 0},
+    {"any sets, to the other edition and back", edition_sets, 100000, 1},
+    {"conversions of other lengths and shapes", edition_lengths, 60000, 1},
+    {"every small old set, and its audit", edition_every_set, 3, 0},
+    {"converted sets pass the audit if they keep its rules", edition_audits, 100000, 1},
+    {"orders on converted sets, and back", edition_orders, 20000, 1},
 };
 
 enum { GROUPS = sizeof groups / sizeof groups[0] };
@@ -1068,6 +1076,36 @@ static int met_all_of_totals(const struct tally *tally)
     return met;
 }
 
+/* Whether conversions met everything, both ways: each letter and refusal, each table with another length, 10 with a
+   write-through entry on either side, and the way back. Random sets make these the more the longer the run. */
+static int met_all_of_conversions(const struct tally *tally, uint64_t percent)
+{
+    int met = tally->conversions[0][11] == 0 && tally->conversions[1][11] >= 20 * percent;
+
+    for (int way = 0; way < 2; way++) {
+        met = met && tally->conversions[way][0] >= 50 * percent && tally->conversions[way][2] >= 20 * percent &&
+              tally->conversions[way][3] >= 50 * percent && tally->conversions[way][10] >= 50 * percent &&
+              tally->tens_over_through[way] >= 10 * percent && tally->there_and_back[way] >= 50 * percent;
+        for (int letter = 0; letter < 5; letter++)
+            met = met && tally->converted[way][letter] >= 500 * percent;
+        for (int table = 0; table < 6; table++)
+            met = met && tally->lengths_alone[way][table] >= 5 * percent;
+    }
+    return met;
+}
+
+/* Whether old sets kept the rules, and broke each of them alone; and whether orders were stepped on from them. */
+static int met_all_rules(const struct tally *tally, uint64_t percent)
+{
+    int met = tally->old_verdicts[0] >= 50 * percent && tally->old_verdicts[1] >= 50 * percent &&
+              tally->stepped >= 100 * percent && tally->stepped_back[0] >= 5 * percent &&
+              tally->stepped_back[1] >= 5 * percent;
+
+    for (int rule = 0; rule < SECOND_RULES; rule++)
+        met = met && tally->old_rules[rule] >= 5 * percent;
+    return met;
+}
+
 static void print_tally(const struct tally *tally, double seconds)
 {
     printf("  %" PRIu64 " calls in %.1f s; step refused 2 to 8:", tally->calls, seconds);
@@ -1129,6 +1167,25 @@ static void print_stores_tally(const struct tally *tally)
     printf("\n");
 }
 
+static void print_edition_tally(const struct tally *tally)
+{
+    for (int way = 0; way < 2; way++) {
+        print_numbers(way ? "  to old: accepted" : "  from old: accepted", tally->conversions[way], 1);
+        print_numbers("; refused 2, 3:", tally->conversions[way] + 2, 2);
+        print_numbers("; 10, 11:", tally->conversions[way] + 10, 2);
+        print_numbers("; I, S, E, O, M:", tally->converted[way], 5);
+        print_numbers("; 3 for one table:", tally->lengths_alone[way], 6);
+        print_numbers("; and back:", &tally->there_and_back[way], 1);
+        printf("\n");
+    }
+    print_numbers("  10 after and before a write-through entry:", tally->tens_over_through, 2);
+    print_numbers("; old sets that break a rule, that keep all:", tally->old_verdicts, 2);
+    print_numbers("\n  for one rule alone (bytes, homes, words, E and M, O, memory):", tally->old_rules, SECOND_RULES);
+    print_numbers("; orders on converted sets:", &tally->stepped, 1);
+    print_numbers("; then to old, refused 11:", tally->stepped_back, 2);
+    printf("\n");
+}
+
 static int run_all(struct tester *tester)
 {
     clock_t start = clock();
@@ -1139,12 +1196,14 @@ static int run_all(struct tester *tester)
     print_tally(&tester->pair.tally, (double)(clock() - start) / CLOCKS_PER_SEC);
     print_stores_tally(&tester->pair.tally);
     print_totals_tally(&tester->pair.tally);
+    print_edition_tally(&tester->pair.tally);
     /* A run of some of the groups need not meet everything. */
     if (failed || tester->from > 0)
         return !failed;
     met = met_everything(&tester->pair.tally) && met_all_stores(&tester->pair.tally, tester->percent) &&
-          met_all_of_totals(&tester->pair.tally);
-    printf("%s %s: every refusal, count, store and verdict was met\n", met ? "ok" : "FAILED", tester->name);
+          met_all_of_totals(&tester->pair.tally) && met_all_of_conversions(&tester->pair.tally, tester->percent) &&
+          met_all_rules(&tester->pair.tally, tester->percent);
+    printf("%s %s: every refusal, count, store, rule and verdict was met\n", met ? "ok" : "FAILED", tester->name);
     return met;
 }
 

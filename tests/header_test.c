@@ -69,7 +69,9 @@ static void check_constants(void)
     CHECK(MOESI_ACCEPTED == 0 && MOESI_REFUSED_TRACE == 1 && MOESI_REFUSED_SHAPE == 2);
     CHECK(MOESI_REFUSED_LENGTH == 3 && MOESI_REFUSED_KIND == 4 && MOESI_REFUSED_PORT == 5);
     CHECK(MOESI_REFUSED_LINE == 6 && MOESI_REFUSED_MASK == 7 && MOESI_REFUSED_ENTRY == 8);
-    CHECK(MOESI_REFUSED_TOTALS == 9);
+    CHECK(MOESI_REFUSED_TOTALS == 9 && MOESI_REFUSED_STATE == 10 && MOESI_REFUSED_THROUGH == 11);
+    CHECK(MOESI_OLD_INVALID == 0 && MOESI_OLD_SHARED == 1 && MOESI_OLD_EXCLUSIVE == 2);
+    CHECK(MOESI_OLD_OWNED == 3 && MOESI_OLD_MODIFIED == 4);
     CHECK(MOESI_KINDS == 6 && MOESI_RECORD_BYTES == 80 && MOESI_MOST_TOTAL == UINT64_C(18446744073709551613));
     CHECK(MOESI_TOTAL_ACCEPTED(MOESI_READ) == 0 && MOESI_TOTAL_ACCEPTED(MOESI_DEVICE_WRITE) == 5);
     CHECK(MOESI_TOTAL_REFUSED == 6 && MOESI_TOTAL_READS == 7 && MOESI_TOTAL_WRITES == 8 && MOESI_TOTAL_SWAPS == 9);
@@ -188,6 +190,30 @@ static void check_calls(void)
     CHECK(moesi_audit(1, 1, 1, NULL, 0, NULL, 0, NULL, 0, NULL, 0, NULL, 0) == MOESI_REFUSED_LENGTH);
 }
 
+/* The conversions on the smallest shape: the names link, and each of their refusals is given. */
+static void check_conversions(void)
+{
+    static const uint8_t tags[4] = {1, 2, 3, 4}, data[8] = {11, 12, 13, 14, 15, 16, 17, 18};
+    uint8_t states[1] = {MOESI_OLD_OWNED}, tags_out[4] = {0}, states_out[1] = {7}, data_out[8] = {0};
+
+    CHECK(moesi_from_old(1, 1, 1, tags, 4, states, 1, data, 8, tags_out, 4, states_out, 1, data_out, 8) ==
+          MOESI_ACCEPTED);
+    CHECK(states_out[0] == MOESI_OWNED && memcmp(tags, tags_out, 4) == 0 && memcmp(data, data_out, 8) == 0);
+    states[0] = 5;
+    CHECK(moesi_from_old(1, 1, 1, tags, 4, states, 1, data, 8, tags_out, 4, states_out, 1, data_out, 8) ==
+          MOESI_REFUSED_STATE);
+    states[0] = MOESI_MODIFIED;
+    CHECK(moesi_to_old(1, 1, 1, tags, 4, states, 1, data, 8, tags_out, 4, states_out, 1, data_out, 8) ==
+          MOESI_ACCEPTED);
+    CHECK(states_out[0] == MOESI_OLD_MODIFIED && memcmp(tags, tags_out, 4) == 0 && memcmp(data, data_out, 8) == 0);
+    states[0] = MOESI_THROUGH_EXCLUSIVE;
+    CHECK(moesi_to_old(1, 1, 1, tags, 4, states, 1, data, 8, tags_out, 4, states_out, 1, data_out, 8) ==
+          MOESI_REFUSED_THROUGH);
+    CHECK(states_out[0] == MOESI_OLD_MODIFIED);
+    CHECK(moesi_to_old(1, 1, 1, NULL, 0, NULL, 0, NULL, 0, NULL, 0, NULL, 0, NULL, 0) == MOESI_REFUSED_LENGTH);
+    CHECK(moesi_from_old(0, 1, 1, NULL, 0, NULL, 0, NULL, 0, NULL, 0, NULL, 0, NULL, 0) == MOESI_REFUSED_SHAPE);
+}
+
 int main(void)
 {
     check_order_words();
@@ -199,5 +225,6 @@ int main(void)
     check_totals();
     check_calls();
     check_step_totals();
+    check_conversions();
     return failures == 0 ? 0 : 1;
 }

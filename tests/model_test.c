@@ -52,6 +52,7 @@ static void check_at(int line, int holds, const char *what)
 /* What has come up, so that no check is passed by looking at nothing. */
 static unsigned refusals_seen[9], states_seen[256], swaps_seen, clean_seen, dirty_seen, passed_seen, failed_seen;
 static unsigned device_writes_seen, counted_seen[10], full_seen, other_length_seen;
+static unsigned from_old_seen[12], to_old_seen[12], converted_passed_seen, converted_failed_seen;
 
 /* Lent bytes, with guard bytes before and after them. */
 struct lent {
@@ -679,11 +680,15 @@ static void run_with_odd_records(struct both *both)
     }
 }
 
-/* The names of a record's numbers; those of its places are looked at with the totals. */
+/* The names of a record's numbers, of the old edition's bytes and of the conversions' refusals; those of a record's
+   places are looked at with the totals. */
 static void check_names(void)
 {
     CHECK(MOESI_KINDS == 6 && MOESI_RECORD_BYTES == 80 && MOESI_REFUSED_TOTALS == 9);
     CHECK(MOESI_MOST_TOTAL == UINT64_C(0xFFFFFFFFFFFFFFFD));
+    CHECK(MOESI_OLD_INVALID == 0 && MOESI_OLD_SHARED == 1 && MOESI_OLD_EXCLUSIVE == 2);
+    CHECK(MOESI_OLD_OWNED == 3 && MOESI_OLD_MODIFIED == 4);
+    CHECK(MOESI_REFUSED_STATE == 10 && MOESI_REFUSED_THROUGH == 11);
 }
 
 /* Steps with a record through the struct. */
@@ -697,6 +702,252 @@ static void check_totals(void)
     for (size_t place = 0; place < 10 && !failures; place++)
         CHECK(counted_seen[place] == SHAPES);
     CHECK(failures || (full_seen > 500 && other_length_seen > 500));
+}
+
+/* Tables of the old edition, between guard bytes. */
+struct old_set {
+    struct lent tags, states, data;
+};
+
+/* The bytes of the old edition's letters in this one. */
+static const uint8_t back_bytes[5] = {0, 9, 10, 11, 12};
+
+/* Any bytes, for a conversion to write over or to leave alone. */
+static void lend_old(struct old_set *set, size_t entries)
+{
+    fill_with_bytes(lend(&set->tags, 4 * entries), 4 * entries);
+    fill_with_bytes(lend(&set->states, entries), entries);
+    fill_with_bytes(lend(&set->data, 8 * entries), 8 * entries);
+}
+
+static int old_unharmed(const struct old_set *set)
+{
+    return unharmed(&set->tags) && unharmed(&set->states) && unharmed(&set->data);
+}
+
+/* An entry that holds a line at its index, with memory's word; entries are of few lines, so that ports meet. */
+static void hold_line(struct old_set *set, const struct both *both, size_t entry)
+{
+    uint64_t index = entry % both->shape.sets, tag = generator_below(&generator, 2);
+    uint64_t line = tag * both->shape.sets + index;
+
+    for (size_t k = 0; k < 4; k++)
+        set->tags.bytes[GUARD + 4 * entry + k] = (uint8_t)(tag >> 8 * k & 255);
+    if (line < both->shape.lines)
+        moesi_put_word(set->data.bytes + GUARD, entry, moesi_get_word(both->memory, (size_t)line));
+}
+
+/* An old set: entries in I with any tag and data, and few or many that hold lines; bad is a byte above 4 or none. */
+static void lend_old_set(struct old_set *set, const struct both *both, unsigned bad)
+{
+    unsigned held = generator_percent(&generator, 50) ? 2 : 60;
+    uint8_t *states;
+
+    lend_old(set, both->entries);
+    states = set->states.bytes + GUARD;
+    for (size_t entry = 0; entry < both->entries; entry++) {
+        states[entry] = MOESI_OLD_INVALID;
+        if (generator_percent(&generator, held)) {
+            states[entry] = (uint8_t)(1 + generator_below(&generator, 4));
+            hold_line(set, both, entry);
+        }
+    }
+    if (bad > 4)
+        states[generator_below(&generator, both->entries)] = (uint8_t)bad;
+}
+
+/* Lengths other than the tables': which of the three, and how many bytes more or less; 0 is right. */
+struct misfit {
+    unsigned which;
+    int by;
+};
+
+static size_t length_of(const struct lent *lent, unsigned place, struct misfit misfit)
+{
+    return misfit.which == place ? (size_t)((int)lent->len + misfit.by) : lent->len;
+}
+
+/* Converts an old set into the struct, and into the tables beside it; they then agree. Gives the refusal. */
+static uint64_t from_old(struct both *both, const struct old_set *set, struct misfit misfit)
+{
+    static struct old_set before;
+    const uint8_t *tags = set->tags.bytes + GUARD, *states = set->states.bytes + GUARD, *data = set->data.bytes + GUARD;
+    size_t tags_len = length_of(&set->tags, 0, misfit), states_len = length_of(&set->states, 1, misfit);
+    size_t data_len = length_of(&set->data, 2, misfit);
+    uint64_t refusal, under;
+
+    before = *set;
+    refusal = moesi_model_from_old(&both->m, tags_len > 0 ? tags : NULL, tags_len, states_len > 0 ? states : NULL,
+                                   states_len, data_len > 0 ? data : NULL, data_len);
+    under = moesi_from_old(both->shape.ports, both->shape.sets, both->shape.lines, tags, tags_len, states, states_len,
+                           data, data_len, both->tags, 4 * both->entries, both->states, both->entries, both->data,
+                           8 * both->entries);
+    CHECK(refusal == under && memcmp(&before, set, sizeof before) == 0);
+    compare(both);
+    from_old_seen[refusal < 12 ? refusal : 0]++;
+    return refusal;
+}
+
+/* Converts the struct's tables to an old set over any bytes, which a refusal leaves. Gives the refusal. */
+static uint64_t to_old(struct both *both, struct old_set *set, struct misfit misfit)
+{
+    static struct old_set before;
+    uint8_t *tags, *states, *data;
+    size_t tags_len, states_len, data_len;
+    uint64_t refusal;
+
+    lend_old(set, both->entries);
+    before = *set;
+    tags = set->tags.bytes + GUARD, states = set->states.bytes + GUARD, data = set->data.bytes + GUARD;
+    tags_len = length_of(&set->tags, 0, misfit), states_len = length_of(&set->states, 1, misfit);
+    data_len = length_of(&set->data, 2, misfit);
+    refusal = moesi_model_to_old(&both->m, tags_len > 0 ? tags : NULL, tags_len, states_len > 0 ? states : NULL,
+                                 states_len, data_len > 0 ? data : NULL, data_len);
+    CHECK(old_unharmed(set));
+    CHECK(refusal == MOESI_ACCEPTED || memcmp(&before, set, sizeof before) == 0);
+    compare(both);
+    to_old_seen[refusal < 12 ? refusal : 0]++;
+    return refusal;
+}
+
+/* An old set and the struct's tables are each other's: tags and data the same, and a byte for each byte. */
+static void check_converted(const struct both *both, const struct old_set *set)
+{
+    CHECK(memcmp(both->m.tags, set->tags.bytes + GUARD, 4 * both->entries) == 0);
+    CHECK(memcmp(both->m.data, set->data.bytes + GUARD, 8 * both->entries) == 0);
+    for (size_t entry = 0; entry < both->entries && !failures; entry++) {
+        CHECK(set->states.bytes[GUARD + entry] <= 4);
+        CHECK(failures || both->m.states[entry] == back_bytes[set->states.bytes[GUARD + entry]]);
+    }
+}
+
+/* The refusal that the struct's state bytes have on the way back. */
+static uint64_t refusal_back(const struct moesi_model *m, size_t entries)
+{
+    uint64_t refusal = MOESI_ACCEPTED;
+
+    for (size_t entry = 0; entry < entries; entry++) {
+        if (m->states[entry] > 12 || (m->states[entry] > 2 && m->states[entry] < 9))
+            return MOESI_REFUSED_STATE;
+        if (m->states[entry] == MOESI_THROUGH_SHARED || m->states[entry] == MOESI_THROUGH_EXCLUSIVE)
+            refusal = MOESI_REFUSED_THROUGH;
+    }
+    return refusal;
+}
+
+static struct old_set old, old_again;
+static const struct misfit fitting = {3, 0};
+
+/* Tables of any other length are refused, both ways, and the model stays as it was. */
+static void check_old_lengths(struct both *both)
+{
+    for (unsigned which = 0; which < 3 && !failures; which++) {
+        const size_t lens[3] = {4 * both->entries, both->entries, 8 * both->entries};
+        const int by[4] = {1, 8, -1, -(int)lens[which]};
+
+        /* The last is an empty table: NULL is tried only if lengths are handed on. */
+        for (unsigned k = 0; k < 4 && !failures; k++) {
+            struct misfit misfit = {which, by[k]};
+
+            memcpy(&second, both, sizeof second);
+            CHECK(from_old(both, &old, misfit) == MOESI_REFUSED_LENGTH);
+            CHECK(to_old(both, &old_again, misfit) == MOESI_REFUSED_LENGTH);
+            CHECK(memcmp(&second.room_lent, &both->room_lent, sizeof second.room_lent) == 0);
+        }
+    }
+}
+
+/* A model's state byte is another one, both ways. */
+static void put_state(struct both *both, size_t entry, uint8_t byte)
+{
+    both->m.states[entry] = both->states[entry] = byte;
+}
+
+/* An old set into the model and back; then orders, and back where no entry is in write through; then a bad byte. */
+static void convert_and_step(struct both *both, unsigned bad)
+{
+    uint64_t due = bad > 4 ? MOESI_REFUSED_STATE : MOESI_ACCEPTED;
+
+    memcpy(&second, both, sizeof second);
+    lend_old_set(&old, both, bad);
+    CHECK(from_old(both, &old, fitting) == due);
+    if (due != MOESI_ACCEPTED) {
+        CHECK(memcmp(&second.room_lent, &both->room_lent, sizeof second.room_lent) == 0);
+        return;
+    }
+    check_converted(both, &old);
+    *(moesi_model_passes(&both->m) ? &converted_passed_seen : &converted_failed_seen) += 1;
+    CHECK(to_old(both, &old_again, fitting) == MOESI_ACCEPTED && memcmp(&old, &old_again, sizeof old) == 0);
+    for (unsigned k = 0; k < 6 && !failures; k++)
+        random_step(both, &both->m);
+    due = refusal_back(&both->m, both->entries);
+    CHECK(to_old(both, &old_again, fitting) == due);
+    if (due == MOESI_ACCEPTED)
+        check_converted(both, &old_again);
+    put_state(both, generator_below(&generator, both->entries), (uint8_t)(3 + generator_below(&generator, 6)));
+    put_state(both, 0, generator_percent(&generator, 50) ? both->states[0] : MOESI_THROUGH_SHARED);
+    CHECK(to_old(both, &old_again, fitting) == refusal_back(&both->m, both->entries));
+}
+
+/* Conversions through the struct, at every shape. */
+static void check_old_sets(void)
+{
+    for (unsigned s = 0; s < SHAPES && !failures; s++) {
+        start(&first, shapes[s]);
+        lend_old_set(&old, &first, 0);
+        check_old_lengths(&first);
+        for (unsigned k = 0; k < 60 && !failures; k++)
+            convert_and_step(&first, k % 3 == 2 ? 5 + generator_below(&generator, 251) : 0);
+    }
+    if (failures)
+        return;
+    CHECK(from_old_seen[0] > 100 && from_old_seen[3] > 100 && from_old_seen[10] > 100);
+    CHECK(to_old_seen[0] > 100 && to_old_seen[3] > 100 && to_old_seen[10] > 100 && to_old_seen[11] > 100);
+    CHECK(converted_passed_seen > 20 && converted_failed_seen > 20);
+}
+
+/* The states that the struct's tables have in the old edition, or its refusal; 2/1/2, tags 0, the words 9. */
+static void check_old_list_is(uint64_t due, uint8_t state_0, uint8_t state_1)
+{
+    uint8_t tags[8], states[2] = {77, 77}, data[16];
+
+    memset(tags, 0x77, sizeof tags);
+    CHECK(moesi_model_to_old(&first.m, tags, 8, states, 2, data, 16) == due);
+    CHECK(states[0] == (due == 0 ? state_0 : 77) && states[1] == (due == 0 ? state_1 : 77));
+    CHECK(due == 0 ? all_zeros(tags, 8) && moesi_get_word(data, 0) == 9 && moesi_get_word(data, 1) == 9
+                   : tags[0] == 0x77);
+}
+
+/* Port 0 owns line 0 and port 1 shares it, in bytes of the old edition; then orders, and what they are there. */
+static void check_old_list(void)
+{
+    static const struct shape shape = {2, 1, 2};
+    static const uint8_t tags[8] = {0}, states[2] = {3, 1};
+    static const uint8_t data[16] = {9, 0, 0, 0, 0, 0, 0, 0, 9, 0, 0, 0, 0, 0, 0, 0};
+    struct moesi_model *m = &first.m;
+
+    start(&first, shape);
+    if (failures)
+        return;
+    moesi_put_word(m->memory, 0, 5);
+    moesi_put_word(m->memory, 1, 7);
+    CHECK(moesi_model_from_old(m, tags, 8, states, 2, data, 16) == MOESI_ACCEPTED);
+    CHECK(moesi_get_word(m->memory, 0) == 5 && moesi_get_word(m->memory, 1) == 7);
+    CHECK(moesi_model_state(m, 0, 0) == MOESI_OWNED && moesi_model_state(m, 1, 0) == MOESI_BACK_SHARED);
+    CHECK(moesi_model_word(m, 0) == 9 && !moesi_model_clean(m, 0) && moesi_model_passes(m) == 1);
+    check_old_list_is(0, MOESI_OLD_OWNED, MOESI_OLD_SHARED);
+    moesi_model_step(m, moesi_order_flush(0, 0), 0);
+    CHECK(moesi_get_word(m->memory, 0) == 9 && moesi_model_clean(m, 0));
+    check_old_list_is(0, MOESI_OLD_INVALID, MOESI_OLD_SHARED);
+    moesi_model_step(m, moesi_order_write(1, 0, MOESI_WRITE_BACK, 0xFF), 9);
+    check_old_list_is(0, MOESI_OLD_INVALID, MOESI_OLD_MODIFIED);
+    moesi_model_step(m, moesi_order_read(1, 0, MOESI_WRITE_THROUGH), 0);
+    check_old_list_is(MOESI_REFUSED_THROUGH, 0, 0);
+    moesi_model_step(m, moesi_order_read(1, 0, MOESI_WRITE_BACK), 0);
+    check_old_list_is(0, MOESI_OLD_INVALID, MOESI_OLD_EXCLUSIVE);
+    m->states[0] = MOESI_OLD_OWNED;
+    check_old_list_is(MOESI_REFUSED_STATE, 0, 0);
+    CHECK(m->states[0] == MOESI_OLD_OWNED && m->states[1] == MOESI_BACK_EXCLUSIVE);
 }
 
 /* A copy of the struct is the same model; a second model, over memory and a room of its own, is another one. */
@@ -918,6 +1169,21 @@ static void check_zeros_with_record(void)
     check_totals_are(&records, due);
 }
 
+/* Conversions with a struct of zeros: refused 2, whatever the tables, and nothing is written. */
+static void check_zeros_with_old(void)
+{
+    static struct moesi_model zeros;
+    uint8_t tags[4] = {1, 2, 3, 4}, states[1] = {1}, data[8] = {5, 6, 7, 8, 9, 10, 11, 12};
+
+    CHECK(moesi_model_from_old(&zeros, tags, 4, states, 1, data, 8) == MOESI_REFUSED_SHAPE);
+    CHECK(moesi_model_to_old(&zeros, tags, 4, states, 1, data, 8) == MOESI_REFUSED_SHAPE);
+    CHECK(tags[0] == 1 && tags[3] == 4 && states[0] == 1 && data[0] == 5 && data[7] == 12);
+    states[0] = 5;
+    CHECK(moesi_model_from_old(&zeros, tags, 4, states, 1, data, 8) == MOESI_REFUSED_SHAPE);
+    CHECK(failures || moesi_model_from_old(&zeros, NULL, 0, NULL, 0, NULL, 0) == MOESI_REFUSED_SHAPE);
+    CHECK(failures || moesi_model_to_old(&zeros, NULL, 0, NULL, 0, NULL, 0) == MOESI_REFUSED_SHAPE);
+}
+
 /* Every refusal that a step through a struct can give, swaps that succeed, clean lines and others have come up. */
 static void check_seen(void)
 {
@@ -933,7 +1199,7 @@ int main(void)
     static void (*const checks[])(void) = {
         check_sizes, check_tags,   check_names,  check_refusals,      check_zeros_with_record, check_totals,
         check_lists, check_orders, check_copies, check_device_writes, check_damage,            check_seen,
-        check_zeros,
+        check_zeros, check_zeros_with_old,       check_old_list,      check_old_sets,
     };
 
     /* A group that fails is the last one: the others use what it found broken. */

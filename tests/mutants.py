@@ -1,5 +1,5 @@
 #!/usr/bin/env python3
-"""Wrong versions of the models, the flat memory, the two programs and the header, into a folder: tests catch them."""
+"""Wrong versions of models, conversions, flat memory, programs and header, into a folder: tests catch them."""
 
 import pathlib
 import sys
@@ -1237,6 +1237,290 @@ COUNTED = [
                           "                                      second_adds(place, word, answer))")),
 ]
 
+# Of the conversions. The groups of random sets catch these.
+NEW_BYTES = "    static const uint8_t bytes[5] = {0, 9, 10, 11, 12};\n"
+ABOVE_FOUR = "    return old < 5 ? bytes[old] : NONE;\n"
+OLD_BYTES = ("    static const uint8_t bytes[13] = {0, THROUGH, THROUGH, NONE, NONE, NONE, NONE, NONE, NONE, 1, 2, 3, 4};\n")
+ABOVE_TWELVE = "    return state < 13 ? bytes[state] : NONE;\n"
+EVERY_BYTE = "    for (size_t k = 0; k < in->states_len; k++) {\n"
+TEN = "        if (other(in->states[k]) == NONE)\n            return 10;\n"
+ELEVEN = "        if (other(in->states[k]) == THROUGH)\n            through = 1;\n"
+TOLD = "    return through ? 11 : 0;\n"
+TWO = "    if (!is_shape(ports, sets, lines))\n        return 2;\n"
+THREE = "    if (!have_lengths(in, out, ports * sets))\n        return 3;\n"
+CHECKED = "    if ((refusal = refusal_of(in, other)))\n        return refusal;\n"
+STATES_WRITTEN = "    for (size_t k = 0; k < in->states_len; k++)\n        out->states[k] = other(in->states[k]);\n"
+TAGS_COPIED = "    memcpy(out->tags, in->tags, in->tags_len);\n"
+DATA_COPIED = "    memcpy(out->data, in->data, in->data_len);\n"
+
+
+def new_bytes(*bytes_of_letters):
+    """The letters I, S, E, O, M become other bytes of the new edition."""
+    return NEW_BYTES.replace("0, 9, 10, 11, 12", ", ".join(map(str, bytes_of_letters)))
+
+
+def old_bytes(place, byte):
+    """A byte of the new edition becomes another one of the old."""
+    bytes_of_states = ["0", "THROUGH", "THROUGH", *["NONE"] * 6, "1", "2", "3", "4"]
+    bytes_of_states[place] = str(byte)
+    return f"    static const uint8_t bytes[13] = {{{', '.join(bytes_of_states)}}};\n"
+
+
+def unless_invalid(what, otherwise=""):
+    """Tags or data, of some bytes each, are copied only where the entry is held."""
+    size = {"tags": 4, "data": 8}[what]
+    return (f"    for (size_t k = 0; k < in->states_len; k++) {{\n        if (in->states[k])\n"
+            f"            memcpy(out->{what} + {size} * k, in->{what} + {size} * k, {size});\n{otherwise}    }}\n")
+
+
+EDITION = [
+    # The letters on the way to the new edition.
+    ("O becomes S", NEW_BYTES, new_bytes(0, 9, 10, 9, 12)),
+    ("E becomes M", NEW_BYTES, new_bytes(0, 9, 12, 11, 12)),
+    ("M becomes O", NEW_BYTES, new_bytes(0, 9, 10, 11, 11)),
+    ("S becomes E", NEW_BYTES, new_bytes(0, 10, 10, 11, 12)),
+    ("O and M change places", NEW_BYTES, new_bytes(0, 9, 10, 12, 11)),
+    ("E and S change places", NEW_BYTES, new_bytes(0, 10, 9, 11, 12)),
+    ("S and E become write-through ones", NEW_BYTES, new_bytes(0, 1, 2, 11, 12)),
+    ("S becomes write-through S", NEW_BYTES, new_bytes(0, 1, 10, 11, 12)),
+    ("E becomes write-through E", NEW_BYTES, new_bytes(0, 9, 2, 11, 12)),
+    ("I becomes S", NEW_BYTES, new_bytes(9, 9, 10, 11, 12)),
+    ("M becomes I", NEW_BYTES, new_bytes(0, 9, 10, 11, 0)),
+    ("the bytes stay as they are", NEW_BYTES, new_bytes(0, 1, 2, 3, 4)),
+    ("an entry at the last place becomes I", STATES_WRITTEN,
+     STATES_WRITTEN + "    out->states[in->states_len - 1] = 0;\n"),
+    # Bytes that are no letter.
+    ("byte 5 is taken for I", ABOVE_FOUR, ABOVE_FOUR.replace(": NONE", ": old == 5 ? 0 : NONE")),
+    ("byte 5 is taken for M", ABOVE_FOUR, ABOVE_FOUR.replace(": NONE", ": old == 5 ? 12 : NONE")),
+    ("byte 255 is taken for I", ABOVE_FOUR, ABOVE_FOUR.replace(": NONE", ": old == 255 ? 0 : NONE")),
+    ("bytes above 4 are taken for I", ABOVE_FOUR, ABOVE_FOUR.replace(": NONE", ": 0")),
+    ("bytes of the new edition are let in",
+     ABOVE_FOUR, ABOVE_FOUR.replace(": NONE", ": old >= 9 && old <= 12 ? old : NONE")),
+    ("three bits of an old byte are looked at",
+     ABOVE_FOUR, ABOVE_FOUR.replace("old < 5", "(old & 7) < 5").replace("[old]", "[old & 7]")),
+    ("byte 4 is refused", ABOVE_FOUR, ABOVE_FOUR.replace("< 5", "< 4")),
+    ("an old byte above 4 is refused 11", ABOVE_FOUR, ABOVE_FOUR.replace("NONE", "THROUGH")),
+    # The letters on the way back.
+    ("write-through S is taken for S", OLD_BYTES, old_bytes(1, 1)),
+    ("write-through E is taken for E", OLD_BYTES, old_bytes(2, 2)),
+    ("write-through S is taken for I", OLD_BYTES, old_bytes(1, 0)),
+    ("write-through S is taken for no state", OLD_BYTES, old_bytes(1, "NONE")),
+    ("write-through E is taken for no state", OLD_BYTES, old_bytes(2, "NONE")),
+    ("M becomes O on the way back", OLD_BYTES, old_bytes(12, 3)),
+    ("O becomes M on the way back", OLD_BYTES, old_bytes(11, 4)),
+    ("O becomes S on the way back", OLD_BYTES, old_bytes(11, 1)),
+    ("E becomes S on the way back", OLD_BYTES, old_bytes(10, 1)),
+    ("S becomes E on the way back", OLD_BYTES, old_bytes(9, 2)),
+    ("S becomes I on the way back", OLD_BYTES, old_bytes(9, 0)),
+    *((f"byte {byte} is let in on the way back", OLD_BYTES, old_bytes(byte, letter))
+      for byte, letter in ((3, 3), (4, 4), (5, 0), (6, 0), (7, 0), (8, 1))),
+    ("byte 13 is taken for M", ABOVE_TWELVE, ABOVE_TWELVE.replace(": NONE", ": state == 13 ? 4 : NONE")),
+    ("four bits of a new byte are looked at",
+     ABOVE_TWELVE, ABOVE_TWELVE.replace("state < 13", "(state & 15) < 13").replace("[state]", "[state & 15]")),
+    ("a byte above 12 is taken for write through", ABOVE_TWELVE, ABOVE_TWELVE.replace("NONE", "THROUGH")),
+    ("a byte from 3 to 8 is taken for write through", OLD_BYTES, OLD_BYTES.replace("NONE", "THROUGH")),
+    ("the way back is the way there", "&in, &out, old_byte)", "&in, &out, new_byte)"),
+    ("the way there is the way back", "&in, &out, new_byte)", "&in, &out, old_byte)"),
+    # Which refusal is told.
+    ("10 and 11 change places", TEN + ELEVEN + "    }\n" + TOLD,
+     TEN.replace("10", "11") + ELEVEN + "    }\n" + TOLD.replace("11", "10")),
+    ("whichever of 10 and 11 comes first is told", ELEVEN, ELEVEN.replace("through = 1", "return 11")),
+    ("11 is told before 10", TEN + ELEVEN + "    }\n" + TOLD,
+     TEN.replace("return 10", "through |= 2") + ELEVEN.replace("= 1", "|= 1") + "    }\n"
+     + "    return through & 1 ? 11 : through ? 10 : 0;\n"),
+    ("10 is told only before a write-through entry", TEN,
+     TEN.replace("(other", "(!through && other")),
+    ("the first byte is not looked at", EVERY_BYTE, EVERY_BYTE.replace("k = 0", "k = 1")),
+    ("the last byte is not looked at", EVERY_BYTE, EVERY_BYTE.replace("k < in", "k + 1 < in")),
+    ("the last byte is not looked at for write through", ELEVEN,
+     ELEVEN.replace("(other", "(k + 1 < in->states_len && other")),
+    ("the first byte is not looked at for write through", ELEVEN, ELEVEN.replace("(other", "(k > 0 && other")),
+    ("the last write-through entry is let in", ELEVEN, ELEVEN.replace("through = 1", "through = k + 1 < in->states_len")),
+    ("one write-through entry is let in", ELEVEN + "    }\n" + TOLD,
+     ELEVEN.replace("through = 1", "through++") + "    }\n" + TOLD.replace("through ?", "through > 1 ?")),
+    ("64 entries are looked at", EVERY_BYTE, EVERY_BYTE.replace("k < in->states_len", "k < in->states_len && k < 64")),
+    ("a home line beyond the last is refused", CHECKED,
+     CHECKED + "    for (size_t k = 0; k < in->states_len; k++) {\n        uint32_t tag;\n\n"
+     "        memcpy(&tag, in->tags + 4 * k, 4);\n        if (in->states[k] && tag * sets + k % sets >= lines)\n"
+     "            return 8;\n    }\n"),
+    # What is written where the conversion is refused.
+    ("states are written up to the byte that is refused", CHECKED + STATES_WRITTEN,
+     "    for (size_t k = 0; k < in->states_len; k++) {\n        if (other(in->states[k]) >= THROUGH)\n"
+     "            return refusal_of(in, other);\n        out->states[k] = other(in->states[k]);\n    }\n"),
+    ("tags are copied before the bytes are looked at", CHECKED, TAGS_COPIED + CHECKED),
+    ("data is copied before the bytes are looked at", CHECKED, DATA_COPIED + CHECKED),
+    ("tags are copied although an entry is in write through", CHECKED,
+     CHECKED.replace("        return", "    {\n        if (refusal == 11)\n        " + TAGS_COPIED + "        return")
+     + "    }\n"),
+    ("10 clears the states", CHECKED,
+     CHECKED.replace("        return", "    {\n        memset(out->states, 0, out->states_len);\n        return") + "    }\n"),
+    ("11 clears the data", CHECKED,
+     CHECKED.replace("        return", "    {\n        if (refusal == 11)\n"
+                     "            memset(out->data, 0, out->data_len);\n        return") + "    }\n"),
+    ("3 clears the tags", THREE,
+     THREE.replace("        return", "    {\n        if (out->tags)\n"
+                   "            memset(out->tags, 0, out->tags_len);\n        return") + "    }\n"),
+    ("2 clears the states", TWO,
+     TWO.replace("        return", "    {\n        if (out->states)\n"
+                 "            memset(out->states, 0, out->states_len);\n        return") + "    }\n"),
+    # What is copied.
+    ("tags are not copied", TAGS_COPIED, ""),
+    ("data is not copied", DATA_COPIED, ""),
+    ("states are not written", STATES_WRITTEN, ""),
+    ("the last state is not written", STATES_WRITTEN, STATES_WRITTEN.replace("k < in", "k + 1 < in")),
+    ("the last byte of data is not copied", DATA_COPIED, DATA_COPIED.replace("data_len", "data_len - 1")),
+    ("the last byte of the tags is not copied", TAGS_COPIED, TAGS_COPIED.replace("tags_len", "tags_len - 1")),
+    ("the first byte of data is not copied", DATA_COPIED,
+     DATA_COPIED.replace("out->data, in->data, in->data_len", "out->data + 1, in->data + 1, in->data_len - 1")),
+    ("tags of entries in I are not copied", TAGS_COPIED, unless_invalid("tags")),
+    ("data of entries in I is not copied", DATA_COPIED, unless_invalid("data")),
+    ("tags of entries in I are cleared", TAGS_COPIED,
+     unless_invalid("tags", "        else\n            memset(out->tags + 4 * k, 0, 4);\n")),
+    ("data of entries in I is cleared", DATA_COPIED,
+     unless_invalid("data", "        else\n            memset(out->data + 8 * k, 0, 8);\n")),
+    ("tags are copied one entry on", TAGS_COPIED,
+     "    for (size_t k = 0; k < in->states_len; k++)\n"
+     "        memcpy(out->tags + 4 * ((k + 1) % in->states_len), in->tags + 4 * k, 4);\n"),
+    ("data is copied backwards", DATA_COPIED,
+     "    for (size_t k = 0; k < in->states_len; k++)\n"
+     "        memcpy(out->data + 8 * (in->states_len - 1 - k), in->data + 8 * k, 8);\n"),
+    ("tags are cut to 16 bits", TAGS_COPIED,
+     TAGS_COPIED + "    for (size_t k = 0; k < in->states_len; k++)\n        memset(out->tags + 4 * k + 2, 0, 2);\n"),
+    ("the words' bytes are turned round", DATA_COPIED,
+     "    for (size_t k = 0; k < in->data_len; k++)\n        out->data[k] = in->data[k ^ 7];\n"),
+    ("the input states are cleared", STATES_WRITTEN,
+     STATES_WRITTEN + "    memset((uint8_t *)in->states, 0, in->states_len);\n"),
+    ("an input tag is written", TAGS_COPIED, TAGS_COPIED + "    ((uint8_t *)in->tags)[0]++;\n"),
+    ("a write beyond the states", STATES_WRITTEN, STATES_WRITTEN + "    out->states[out->states_len] = 0;\n"),
+    ("a write before the data", DATA_COPIED, DATA_COPIED + "    out->data[-1] = 0;\n"),
+    ("a write beyond the tags", TAGS_COPIED, TAGS_COPIED.replace("in->tags_len", "in->tags_len + 1")),
+    # Lengths. Where a table is empty the pointer may be NULL, so that these let no empty one in, or leave at once.
+    *((f"the length of the {name} is not looked at",
+       f"{side}->{what}_len == {size}entries", f"{side}->{what}_len > 0")
+      for name, side, what, size in (
+          ("input tags", "in", "tags", "4 * "), ("input states", "in", "states", ""), ("input data", "in", "data", "8 * "),
+          ("output tags", "out", "tags", "4 * "), ("output states", "out", "states", ""),
+          ("output data", "out", "data", "8 * "))),
+    ("a longer output table is let in", "out->data_len == 8 * entries", "out->data_len >= 8 * entries"),
+    ("part of an entry more is let in", "out->tags_len == 4 * entries", "out->tags_len / 4 == entries"),
+    ("part of an entry less is let in", "in->tags_len == 4 * entries", "(in->tags_len + 3) / 4 == entries"),
+    ("no output table is let in", THREE, "    if (out->tags_len == 0)\n        return 0;\n" + THREE),
+    # The shape, and the order of the checks.
+    ("3 for 2", TWO, TWO.replace("2;", "3;")),
+    ("2 for 3", THREE, THREE.replace("3;", "2;")),
+    ("the lengths are refused before the shape", TWO + THREE, THREE + TWO),
+    ("the bytes are refused before the lengths", THREE + CHECKED, CHECKED + THREE),
+    ("the bytes are refused before the shape", TWO, CHECKED + TWO),
+    ("11 is given before 3", THREE, "    if (refusal_of(in, other) == 11)\n        return 11;\n" + THREE),
+    ("a ninth port", "ports > 8", "ports > 9"),
+    ("no port", "ports < 1 || ", ""),
+    ("one line too many", "lines > 4096", "lines > 4097"),
+    ("the lines are not looked at", " || lines < 1 || lines > 4096", ""),
+    ("sets that are no power of two", " && 64 % sets == 0", ""),
+    ("a hundred and twenty-eight sets", "sets <= 64 && 64 %", "sets <= 128 && 128 %"),
+    ("a shape cut to 32 bits", TWO, "    ports = (uint32_t)ports;\n    lines = (uint32_t)lines;\n" + TWO),
+]
+
+# The same slip in the conversions and in the second model's: the bytes worked out by hand can tell.
+SECOND_LETTERS = "    case 'S': return 9;\n    case 'E': return 10;\n    case 'O': return 11;\n    case 'M': return 12;\n"
+SECOND_OLD = "    case 4: return 'M';\n    default: return 0;\n"
+SECOND_NEW = "    case 12: return 'M';\n    default: return 0;\n"
+SECOND_THROUGH = "        if (from->states[entry] == 1 || from->states[entry] == 2)\n            return 11;\n"
+SECOND_TAGS = "    for (size_t k = 0; k < 4 * entries_of(shape); k++)\n        to->tags[k] = from->tags[k];\n"
+SECOND_DATA = "    for (size_t k = 0; k < 8 * entries_of(shape); k++)\n        to->data[k] = from->data[k];\n"
+SECOND_NO_STATE = ("        if (letter_of_new(from->states[entry]) == 0)\n            return 10;\n    }\n"
+                   "    /* \"11 for a write-through entry on the way back, after 10\" */\n"
+                   "    for (size_t entry = 0; entry < entries_of(shape); entry++) {\n")
+LETTERS = [
+    ("O becomes S", NEW_BYTES, new_bytes(0, 9, 10, 9, 12),
+     SECOND_LETTERS, SECOND_LETTERS.replace("'O': return 11", "'O': return 9")),
+    ("O and M change places, there and back",
+     "    return state < 13 ? bytes[state] : NONE;\n}\n",
+     "    return state == 11 ? 4 : state == 12 ? 3 : state < 13 ? bytes[state] : NONE;\n}\n"
+     "static uint8_t exchanged(uint8_t old)\n{\n    return old == 3 ? 12 : old == 4 ? 11 : new_byte(old);\n}\n"
+     "#define new_byte exchanged\n",
+     "    case 3: return 'O';\n    case 4: return 'M';\n", "    case 3: return 'M';\n    case 4: return 'O';\n"),
+    ("S and E become write-through ones", NEW_BYTES, new_bytes(0, 1, 2, 11, 12),
+     SECOND_LETTERS, SECOND_LETTERS.replace("return 9", "return 1").replace("return 10", "return 2")),
+    ("byte 5 is taken for I", ABOVE_FOUR, ABOVE_FOUR.replace(": NONE", ": old == 5 ? 0 : NONE"),
+     SECOND_OLD, "    case 5: return 'I';\n" + SECOND_OLD),
+    ("byte 255 is taken for M", ABOVE_FOUR, ABOVE_FOUR.replace(": NONE", ": old == 255 ? 12 : NONE"),
+     SECOND_OLD, "    case 255: return 'M';\n" + SECOND_OLD),
+    ("byte 13 is taken for M", ABOVE_TWELVE, ABOVE_TWELVE.replace(": NONE", ": state == 13 ? 4 : NONE"),
+     SECOND_NEW, "    case 13: return 'M';\n" + SECOND_NEW),
+    ("byte 3 is taken for O on the way back", OLD_BYTES, old_bytes(3, 3),
+     SECOND_NEW, "    case 3: return 'O';\n" + SECOND_NEW),
+    ("write-through S is taken for S", OLD_BYTES, old_bytes(1, 1),
+     SECOND_THROUGH, SECOND_THROUGH.replace("from->states[entry] == 1 || ", "")),
+    ("write-through E is taken for E", OLD_BYTES, old_bytes(2, 2),
+     SECOND_THROUGH, SECOND_THROUGH.replace(" || from->states[entry] == 2", "")),
+    ("M becomes O on the way back", OLD_BYTES, old_bytes(12, 3),
+     "    return byte;\n", "    return byte == 4 ? 3 : byte;\n"),
+    ("whichever of 10 and 11 comes first is told", ELEVEN, ELEVEN.replace("through = 1", "return 11"),
+     SECOND_NO_STATE, SECOND_NO_STATE.replace("    }\n", SECOND_THROUGH + "    }\n")),
+    ("11 is told before 10", TEN + ELEVEN + "    }\n" + TOLD,
+     TEN.replace("return 10", "through |= 2") + ELEVEN.replace("= 1", "|= 1") + "    }\n"
+     + "    return through & 1 ? 11 : through ? 10 : 0;\n",
+     "    /* \"10 for ... a new byte that is no state\" */\n",
+     "    for (size_t entry = 0; entry < entries_of(shape); entry++) {\n" + SECOND_THROUGH + "    }\n"),
+    ("the last write-through entry is let in", ELEVEN, ELEVEN.replace("through = 1", "through = k + 1 < in->states_len"),
+     SECOND_THROUGH, SECOND_THROUGH.replace("(from->states[entry] == 1 || from->states[entry] == 2)",
+                                            "(entry + 1 < entries_of(shape) && (from->states[entry] == 1 || "
+                                            "from->states[entry] == 2))")),
+    ("tags of entries in I are not copied", TAGS_COPIED, unless_invalid("tags"),
+     SECOND_TAGS, SECOND_TAGS.replace("        to", "        if (from->states[k / 4] != 0)\n            to")),
+    ("data of entries in I is cleared", DATA_COPIED,
+     unless_invalid("data", "        else\n            memset(out->data + 8 * k, 0, 8);\n"),
+     SECOND_DATA, SECOND_DATA.replace("= from->data[k]", "= from->states[k / 8] != 0 ? from->data[k] : 0")),
+    ("the last byte of data is not copied", DATA_COPIED, DATA_COPIED.replace("data_len", "data_len - 1"),
+     SECOND_DATA, SECOND_DATA.replace("k < 8", "k + 1 < 8")),
+    ("tags and data are copied before the old bytes are looked at",
+     CHECKED, "    if (other == new_byte) {\n" + TAGS_COPIED + DATA_COPIED + "    }\n" + CHECKED,
+     "    /* \"10 for an old byte above 4\" */\n", "    copy_tags_and_data(shape, old, to);\n"),
+]
+
+# Of the rules on the five letters. The audit of converted sets catches these: it is right.
+RULE_BYTES = "    if (letter_of_old(old->states[entry]) == 0)\n        return 1u << SECOND_RULE_BYTES;\n"
+RULE_HOMES = "    if (is_held(old, entry) && home >= old->shape.lines)\n"
+RULE_WORDS = "    if (count_without(&holders, holders.words[0]) > 0)\n"
+RULE_ALONE = "    if (count_of(&holders, 'E', 'M') > 0 && holders.count > 1)\n"
+RULE_ONE_O = "    if (count_of(&holders, 'O', 'O') > 1)\n"
+RULE_MEMORY = "    if (count_of(&holders, 'O', 'M') == 0 && count_without(&holders, old->memory[line]) > 0)\n"
+RULES = [
+    ("bytes above 4 are forgotten", RULE_BYTES, ""),
+    ("byte 5 is forgotten", RULE_BYTES, RULE_BYTES.replace("== 0)", "== 0 && old->states[entry] != 5)")),
+    ("home lines are forgotten", RULE_HOMES, RULE_HOMES.replace("(is_held", "(0 && is_held")),
+    ("a home line one too far", RULE_HOMES, RULE_HOMES.replace(">=", ">")),
+    ("a home line in 32 bits", RULE_HOMES, RULE_HOMES.replace("home >=", "(uint32_t)home >=")),
+    ("entries in I are asked for a home line", RULE_HOMES, RULE_HOMES.replace("is_held(old, entry) && ", "")),
+    ("words are forgotten", RULE_WORDS, RULE_WORDS.replace("> 0", "> SECOND_MAX_PORTS")),
+    ("words are compared with memory's", RULE_WORDS, RULE_WORDS.replace("holders.words[0]", "old->memory[line]")),
+    ("the words' lower halves are compared", "count += holders->words[k] != word;",
+     "count += (uint32_t)holders->words[k] != (uint32_t)word;"),
+    ("E and M need not be alone", RULE_ALONE, RULE_ALONE.replace("> 1", "> SECOND_MAX_PORTS")),
+    ("E need not be alone", RULE_ALONE, RULE_ALONE.replace("'E', 'M'", "'M', 'M'")),
+    ("M need not be alone", RULE_ALONE, RULE_ALONE.replace("'E', 'M'", "'E', 'E'")),
+    ("E and M may be two", RULE_ALONE, RULE_ALONE.replace("> 1", "> 2")),
+    ("O has to be alone too", RULE_ALONE, RULE_ALONE.replace("(count_of", "(count_of(&holders, 'O', 'O') + count_of")),
+    ("S has to be shared", RULE_ALONE,
+     RULE_ALONE.replace("(count_of", "((holders.count == 1 && holders.letters[0] == 'S') || (count_of").replace(
+         "> 1)", "> 1))")),
+    ("a second O is forgotten", RULE_ONE_O, RULE_ONE_O.replace("> 1", "> SECOND_MAX_PORTS")),
+    ("two O's are let in, and three not", RULE_ONE_O, RULE_ONE_O.replace("> 1", "> 2")),
+    ("memory is forgotten", RULE_MEMORY, RULE_MEMORY.replace("> 0", "> SECOND_MAX_PORTS")),
+    ("an owned line is compared with memory", RULE_MEMORY, RULE_MEMORY.replace("count_of(&holders, 'O', 'M') == 0 && ", "")),
+    ("O is no owner", RULE_MEMORY, RULE_MEMORY.replace("'O', 'M'", "'M', 'M'")),
+    ("M is no owner", RULE_MEMORY, RULE_MEMORY.replace("'O', 'M'", "'O', 'O'")),
+    ("E is an owner", RULE_MEMORY, RULE_MEMORY.replace("== 0 &&", "+ count_of(&holders, 'E', 'E') == 0 &&")),
+    ("a lone S is not compared with memory", RULE_MEMORY,
+     RULE_MEMORY.replace("(count_of", "((holders.count > 1 || holders.letters[0] != 'S') && count_of")),
+    ("the last port is forgotten", "port < old->shape.ports; port++", "port + 1 < old->shape.ports; port++"),
+    ("the last line is forgotten", "line < old->shape.lines; line++", "line + 1 < old->shape.lines; line++"),
+    ("the last entry is forgotten", "entry < entries_of(old->shape); entry++", "entry + 1 < entries_of(old->shape); entry++"),
+    ("the tag of a holder is not looked at", "is_held(old, entry) && old->tags[entry] == line / sets", "is_held(old, entry)"),
+    ("entries in I hold lines too", "    return letter != 0 && letter != 'I';\n", "    return letter != 0;\n"),
+]
+
 TRACE = [
     ("a longer input is cut off",
      "static uint8_t trace[MOST_BYTES + 1];",
@@ -1588,6 +1872,61 @@ HEADER = [
      "    moesi_step_totals(m->ports,",
      "    if (record_len == MOESI_RECORD_BYTES)\n        return moesi_model_step(m, word, operand);\n"
      "    moesi_step_totals(m->ports,"),
+    # Tables of the old edition.
+    ("I has another old byte", "#define MOESI_OLD_INVALID 0u", "#define MOESI_OLD_INVALID 5u"),
+    ("S and E have the same old byte", "#define MOESI_OLD_SHARED 1u", "#define MOESI_OLD_SHARED 2u"),
+    ("E has the old byte of O", "#define MOESI_OLD_EXCLUSIVE 2u", "#define MOESI_OLD_EXCLUSIVE 3u"),
+    ("O has the old byte of M", "#define MOESI_OLD_OWNED 3u", "#define MOESI_OLD_OWNED 4u"),
+    ("M has the old byte of O", "#define MOESI_OLD_MODIFIED 4u", "#define MOESI_OLD_MODIFIED 3u"),
+    ("the refusal of a byte has another number", "#define MOESI_REFUSED_STATE 10u", "#define MOESI_REFUSED_STATE 11u"),
+    ("the refusal of write through has another number",
+     "#define MOESI_REFUSED_THROUGH 11u", "#define MOESI_REFUSED_THROUGH 12u"),
+    ("an old set is converted the wrong way", "    return moesi_from_old(m->ports,", "    return moesi_to_old(m->ports,"),
+    ("a model is converted the wrong way", "    return moesi_to_old(m->ports,", "    return moesi_from_old(m->ports,"),
+    ("sets and lines change places for an old set",
+     "    return moesi_from_old(m->ports, m->sets, m->lines,", "    return moesi_from_old(m->ports, m->lines, m->sets,"),
+    ("sets and lines change places for a model",
+     "    return moesi_to_old(m->ports, m->sets, m->lines,", "    return moesi_to_old(m->ports, m->lines, m->sets,"),
+    ("an old set's tags and data change places",
+     "tags, tags_len, states, states_len, data, data_len, m->tags,",
+     "data, data_len, states, states_len, tags, tags_len, m->tags,"),
+    ("a model's tags and data change places",
+     "m->tags, m->sizes.tags, m->states, m->sizes.states, m->data,\n                        m->sizes.data, tags,",
+     "m->data, m->sizes.data, m->states, m->sizes.states, m->tags,\n                        m->sizes.tags, tags,"),
+    *((f"an old set's {what} are of any length",
+       f"{before}{what}_len, {after}", f"{before}m->sizes.{what}, {after}")
+      for what, before, after in (("tags", "m->lines, tags, ", "states, states_len, data, data_len, m->tags,"),
+                                  ("states", "m->lines, tags, tags_len, states, ", "data, data_len, m->tags,"),
+                                  ("data", "m->lines, tags, tags_len, states, states_len, data, ", "m->tags,"))),
+    *((f"the {what} to write are of any length",
+       f"{before}{what}_len{after}", f"{before}m->sizes.{what}{after}")
+      for what, before, after in (("tags", "m->sizes.data, tags, ", ", states, states_len, data, data_len);"),
+                                  ("states", "m->sizes.data, tags, tags_len, states, ", ", data, data_len);"),
+                                  ("data", "m->sizes.data, tags, tags_len, states, states_len, data, ", ");"))),
+    ("an old set is not written into the model",
+     "    return moesi_from_old(m->ports,",
+     "    if (moesi_shape_in_range(m->ports, m->sets, m->lines) && tags_len == m->sizes.tags &&\n"
+     "        states_len == m->sizes.states && data_len == m->sizes.data && states[0] < 5)\n"
+     "        return MOESI_ACCEPTED;\n    return moesi_from_old(m->ports,"),
+    ("a refused old set leaves a fresh model",
+     "    return moesi_from_old(m->ports,",
+     "    if (states_len > 0 && states[0] > 4)\n"
+     "        moesi_fresh(m->ports, m->sets, m->lines, m->memory, m->sizes.memory, m->tags, m->sizes.tags, m->states,\n"
+     "                    m->sizes.states, m->data, m->sizes.data);\n    return moesi_from_old(m->ports,"),
+    ("a refusal of an old set is not handed on",
+     "    return moesi_from_old(m->ports,", "    return MOESI_ACCEPTED & moesi_from_old(m->ports,"),
+    ("an old set clears a word of memory",
+     "    return moesi_from_old(m->ports,",
+     "    if (m->sizes.memory > 0)\n        moesi_put_word(m->memory, 0, 0);\n    return moesi_from_old(m->ports,"),
+    ("a refusal of a model is not handed on",
+     "    return moesi_to_old(m->ports,", "    return MOESI_ACCEPTED & moesi_to_old(m->ports,"),
+    ("a model that is converted loses a copy",
+     "    return moesi_to_old(m->ports,",
+     "    if (m->ports > 0 && states_len == m->sizes.states && m->states[0] == MOESI_BACK_SHARED)\n"
+     "        m->states[0] = MOESI_INVALID;\n    return moesi_to_old(m->ports,"),
+    ("a struct of zeros is converted",
+     "    return moesi_to_old(m->ports,",
+     "    if (m->ports == 0)\n        return MOESI_ACCEPTED;\n    return moesi_to_old(m->ports,"),
 ]
 
 
@@ -1598,7 +1937,8 @@ def edit(name, source, old, new):
 
 
 def main():
-    """mutants.py walking|totals|trace|rows|flat|header SOURCE FOLDER, or both|listed|same|counted WALKING SECOND FOLDER.
+    """mutants.py walking|totals|edition|rules|trace|rows|flat|header SOURCE FOLDER, or two sources with the same slip:
+    both|listed|same|counted WALKING SECOND FOLDER, or letters PLAIN SECOND FOLDER.
 
     Prints number and name of each. A header keeps its name, in a folder that has the number.
     """
@@ -1607,7 +1947,8 @@ def main():
     folder = pathlib.Path(folder)
     folder.mkdir(parents=True, exist_ok=True)
     lists = {"walking": WALKING, "totals": TOTALS, "trace": TRACE, "rows": ROWS, "both": BOTH, "listed": LISTED,
-             "same": SAME, "flat": FLAT, "counted": COUNTED, "header": HEADER}
+             "same": SAME, "flat": FLAT, "counted": COUNTED, "edition": EDITION, "letters": LETTERS, "rules": RULES,
+             "header": HEADER}
     for number, (name, *edits) in enumerate(lists[which], 1):
         for place, text in enumerate(texts):
             old, new = edits[2 * place:2 * place + 2]

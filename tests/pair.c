@@ -8,28 +8,13 @@
 #include <stdlib.h>
 #include <string.h>
 
-static const char *const slice_names[SLICES] = {"memory", "tags", "states", "data", "result", "record"};
+static const char *const slice_names[SLICES] = {"memory", "tags",     "states",     "data",    "result",
+                                                "record", "old tags", "old states", "old data"};
 
 /* What fills a result before a call, so that bytes left over from the call before can't pass for an answer. */
 enum { STALE = 0xEE };
 
 /* Slices. */
-
-static uint8_t guard_byte(size_t place)
-{
-    return (uint8_t)(0x5B + 37 * place);
-}
-
-static const uint8_t *guard_pattern(void)
-{
-    static uint8_t pattern[LENT_GUARD];
-
-    if (pattern[0] == 0) {
-        for (size_t k = 0; k < LENT_GUARD; k++)
-            pattern[k] = guard_byte(k);
-    }
-    return pattern;
-}
 
 int pair_open(struct pair *pair)
 {
@@ -39,6 +24,8 @@ int pair_open(struct pair *pair)
         pair->slices[s].expected = calloc(1, LENT_CAPACITY);
         if (pair->slices[s].room == NULL || pair->slices[s].expected == NULL)
             return 0;
+        for (int k = 0; k < LENT_GUARD; k++)
+            pair->slices[s].guard[k] = (uint8_t)(0x5B + 37 * k + 29 * s);
         pair_place_null(pair, (enum slice)s);
     }
     return 1;
@@ -65,8 +52,8 @@ static void place_exactly(struct lent *lent, size_t length)
 static void place_between_guards(struct lent *lent, size_t length, unsigned skew)
 {
     lent->bytes = lent->room + LENT_GUARD + skew;
-    memcpy(lent->bytes - LENT_GUARD, guard_pattern(), LENT_GUARD);
-    memcpy(lent->bytes + length, guard_pattern(), LENT_GUARD);
+    memcpy(lent->bytes - LENT_GUARD, lent->guard, LENT_GUARD);
+    memcpy(lent->bytes + length, lent->guard, LENT_GUARD);
 }
 
 void pair_place(struct pair *pair, enum slice slice, size_t length, unsigned skew)
@@ -90,15 +77,20 @@ void pair_place_null(struct pair *pair, enum slice slice)
     pair->slices[slice].length = 0;
 }
 
+void pair_place_bytes(struct pair *pair, enum slice slice, const uint8_t *bytes, size_t length, unsigned skew)
+{
+    struct lent *lent = &pair->slices[slice];
+
+    pair_place(pair, slice, length, skew % (LENT_MAX_SKEW + 1));
+    if (length > 0) {
+        memcpy(lent->bytes, bytes, length);
+        memcpy(lent->expected, bytes, length);
+    }
+}
+
 void pair_place_record(struct pair *pair, const uint8_t *bytes, size_t length, unsigned skew)
 {
-    struct lent *record = &pair->slices[RECORD];
-
-    pair_place(pair, RECORD, length, skew % (LENT_MAX_SKEW + 1));
-    if (length > 0) {
-        memcpy(record->bytes, bytes, length);
-        memcpy(record->expected, bytes, length);
-    }
+    pair_place_bytes(pair, RECORD, bytes, length, skew);
 }
 
 static void encode_expected(struct pair *pair)
@@ -136,16 +128,32 @@ static int is_step(enum call call)
     return call == STEP || call == STEP_TOTALS;
 }
 
+static int is_conversion(enum call call)
+{
+    return call == FROM_OLD || call == TO_OLD;
+}
+
+enum slice pair_input_of(enum call call)
+{
+    return call == FROM_OLD ? OLD_TAGS : TAGS;
+}
+
+enum slice pair_output_of(enum call call)
+{
+    return call == FROM_OLD ? TAGS : OLD_TAGS;
+}
+
 static size_t result_bytes(enum call call)
 {
     return is_step(call) ? SECOND_ANSWER_BYTES : SECOND_VERDICT_BYTES;
 }
 
-static struct second_lengths lent_lengths(const struct pair *pair)
+/* The lengths of memory, of three tables from that one on, and of the result. */
+static struct second_lengths lent_lengths(const struct pair *pair, enum slice tags)
 {
     const struct lent *slices = pair->slices;
-    struct second_lengths lengths = {slices[MEMORY].length, slices[TAGS].length, slices[STATES].length,
-                                     slices[DATA].length, slices[RESULT].length};
+    struct second_lengths lengths = {slices[MEMORY].length, slices[tags].length, slices[tags + 1].length,
+                                     slices[tags + 2].length, slices[RESULT].length};
 
     return lengths;
 }
@@ -162,8 +170,11 @@ static void spoil_result(struct lent *result)
 static uint64_t early_refusal(struct pair *pair, enum call call, struct second_shape shape)
 {
     const struct lent *record = &pair->slices[RECORD];
-    struct second_lengths lengths = lent_lengths(pair);
+    struct second_lengths lengths = lent_lengths(pair, TAGS);
 
+    if (is_conversion(call))
+        return second_conversion_refusal(shape, lent_lengths(pair, pair_input_of(call)),
+                                         lent_lengths(pair, pair_output_of(call)));
     /* Fresh has no result. */
     if (call == FRESH)
         lengths.result = result_bytes(call);
@@ -191,6 +202,26 @@ static int carry_out(struct pair *pair, enum call call, struct second_shape shap
     return 0;
 }
 
+static struct second_tables expected_tables(struct pair *pair, enum slice tags)
+{
+    struct second_tables tables = {pair->slices[tags].expected, pair->slices[tags + 1].expected,
+                                   pair->slices[tags + 2].expected};
+
+    return tables;
+}
+
+/* Has the second model convert the expected bytes; gives the refusal. */
+static uint64_t carry_over(struct pair *pair, enum call call, struct second_shape shape)
+{
+    struct second_tables in = expected_tables(pair, pair_input_of(call));
+    struct second_tables out = expected_tables(pair, pair_output_of(call));
+
+    if (call == TO_OLD)
+        return second_to_old(shape, &in, &out);
+    pair->stale = 1;
+    return second_from_old(shape, &in, &out);
+}
+
 /* The refusal that the call must return; what the slices must hold is left in expected. */
 static uint64_t expect(struct pair *pair, enum call call, struct second_shape shape, uint64_t word, uint64_t operand)
 {
@@ -201,7 +232,9 @@ static uint64_t expect(struct pair *pair, enum call call, struct second_shape sh
     spoil_result(result);
     pair->expected = nothing;
     pair->expected.refusal = early_refusal(pair, call, shape);
-    if (pair->expected.refusal == 0)
+    if (pair->expected.refusal == 0 && is_conversion(call))
+        pair->expected.refusal = carry_over(pair, call, shape);
+    else if (pair->expected.refusal == 0)
         verdict = carry_out(pair, call, shape, word, operand);
     if (is_step(call) && result->length == SECOND_ANSWER_BYTES)
         second_encode_answer(pair->expected, result->expected);
@@ -214,12 +247,23 @@ static uint64_t expect(struct pair *pair, enum call call, struct second_shape sh
 
 /* The call to the library. */
 
+static uint64_t call_conversion(struct pair *pair, enum call call, struct second_shape shape)
+{
+    const struct lent *in = &pair->slices[pair_input_of(call)], *out = &pair->slices[pair_output_of(call)];
+
+    return (call == FROM_OLD ? moesi_from_old : moesi_to_old)(
+        shape.ports, shape.sets, shape.lines, in[0].bytes, in[0].length, in[1].bytes, in[1].length, in[2].bytes,
+        in[2].length, out[0].bytes, out[0].length, out[1].bytes, out[1].length, out[2].bytes, out[2].length);
+}
+
 static uint64_t call_library(struct pair *pair, enum call call, struct second_shape shape, uint64_t word,
                              uint64_t operand)
 {
     struct lent *memory = &pair->slices[MEMORY], *tags = &pair->slices[TAGS], *states = &pair->slices[STATES],
                 *data = &pair->slices[DATA], *result = &pair->slices[RESULT], *record = &pair->slices[RECORD];
 
+    if (is_conversion(call))
+        return call_conversion(pair, call, shape);
     if (call == FRESH)
         return moesi_fresh(shape.ports, shape.sets, shape.lines, memory->bytes, memory->length, tags->bytes,
                            tags->length, states->bytes, states->length, data->bytes, data->length);
@@ -246,13 +290,11 @@ static void differ(struct pair *pair, const char *what, uint64_t place, uint64_t
              (unsigned long long)place, (unsigned long long)expected, (unsigned long long)got);
 }
 
-static void compare_guard(struct pair *pair, const char *what, const uint8_t *guard)
+static void compare_guard(struct pair *pair, const char *what, const uint8_t *expected, const uint8_t *guard)
 {
-    if (memcmp(guard, guard_pattern(), LENT_GUARD) == 0)
-        return;
     for (size_t k = 0; k < LENT_GUARD; k++) {
-        if (guard[k] != guard_byte(k)) {
-            differ(pair, what, k, guard_byte(k), guard[k]);
+        if (guard[k] != expected[k]) {
+            differ(pair, what, k, expected[k], guard[k]);
             return;
         }
     }
@@ -275,15 +317,15 @@ static void compare_slice(struct pair *pair, enum slice slice)
     if (pair->exact)
         return;
     snprintf(text, sizeof text, "before %s, guard byte", slice_names[slice]);
-    compare_guard(pair, text, lent->bytes - LENT_GUARD);
+    compare_guard(pair, text, lent->guard, lent->bytes - LENT_GUARD);
     snprintf(text, sizeof text, "beyond %s, guard byte", slice_names[slice]);
-    compare_guard(pair, text, lent->bytes + lent->length);
+    compare_guard(pair, text, lent->guard, lent->bytes + lent->length);
 }
 
 static int guards_stand(const struct lent *lent)
 {
-    return memcmp(lent->bytes - LENT_GUARD, guard_pattern(), LENT_GUARD) == 0 &&
-           memcmp(lent->bytes + lent->length, guard_pattern(), LENT_GUARD) == 0;
+    return memcmp(lent->bytes - LENT_GUARD, lent->guard, LENT_GUARD) == 0 &&
+           memcmp(lent->bytes + lent->length, lent->guard, LENT_GUARD) == 0;
 }
 
 /* Whether all bytes are as expected; compare_slice says which are not. */
@@ -356,7 +398,54 @@ static void count_totals(const struct pair *pair, struct tally *tally, uint64_t 
         tally->totals_swaps[answer.swapped]++;
 }
 
-static void count(struct pair *pair, enum call call, uint64_t word)
+/* Counts a conversion refused 3 if the length of one table alone is wrong. */
+static void count_lengths(const struct pair *pair, struct tally *tally, enum call call, struct second_shape shape)
+{
+    static const size_t entry_bytes[3] = {4, 1, 8};
+    unsigned wrong = 0, place = 0;
+
+    for (unsigned k = 0; k < 6; k++) {
+        enum slice first = k < 3 ? pair_input_of(call) : pair_output_of(call);
+
+        if (pair->slices[first + k % 3].length != entry_bytes[k % 3] * shape.ports * shape.sets) {
+            wrong++;
+            place = k;
+        }
+    }
+    tally->lengths_alone[call == TO_OLD][place] += wrong == 1;
+}
+
+/* Counts a conversion to old that was refused 10, if some entry is in write through besides. */
+static void count_ten(struct tally *tally, const struct lent *states)
+{
+    const uint8_t *bytes = states->expected;
+    size_t through = 0, none = 0;
+
+    while (through < states->length && bytes[through] != 1 && bytes[through] != 2)
+        through++;
+    while (none < states->length && (bytes[none] <= 2 || (bytes[none] >= 9 && bytes[none] <= 12)))
+        none++;
+    if (through < states->length)
+        tally->tens_over_through[through > none]++;
+}
+
+static void count_conversion(const struct pair *pair, struct tally *tally, enum call call, struct second_shape shape)
+{
+    const struct lent *old = &pair->slices[OLD_STATES];
+    uint64_t refusal = pair->expected.refusal;
+
+    tally->conversions[call == TO_OLD][refusal]++;
+    if (refusal == 3)
+        count_lengths(pair, tally, call, shape);
+    if (refusal == 10 && call == TO_OLD)
+        count_ten(tally, &pair->slices[STATES]);
+    for (size_t entry = 0; refusal == 0 && entry < old->length; entry++) {
+        if (old->expected[entry] < 5)
+            tally->converted[call == TO_OLD][old->expected[entry]]++;
+    }
+}
+
+static void count(struct pair *pair, enum call call, struct second_shape shape, uint64_t word)
 {
     uint64_t refusal = pair->expected.refusal;
 
@@ -367,6 +456,8 @@ static void count(struct pair *pair, enum call call, uint64_t word)
         count_step(&pair->tally, word, pair->expected);
     if (call == STEP_TOTALS)
         count_totals(pair, &pair->tally, word);
+    if (is_conversion(call))
+        count_conversion(pair, &pair->tally, call, shape);
     if (call == AUDIT)
         pair->tally.audit_refusals[refusal]++;
     if (call == AUDIT && refusal == 0)
@@ -380,7 +471,7 @@ int pair_call(struct pair *pair, enum call call, struct second_shape shape, uint
 
     pair->returned = got;
     pair->difference[0] = '\0';
-    count(pair, call, word);
+    count(pair, call, shape, word);
     if (expected == got && slices_equal(pair))
         return 1;
     if (expected != got)

@@ -3,7 +3,7 @@
 #ifndef PAIR_H
 #define PAIR_H
 
-#include "second_model.h"
+#include "second_edition.h"
 
 enum {
     LENT_GUARD = 64,       /* bytes kept on either side of a slice */
@@ -17,12 +17,14 @@ struct lent {
     uint8_t *bytes;
     size_t length;
     uint8_t *expected;
+    uint8_t guard[LENT_GUARD]; /* the guard bytes on either side, other ones for each slice: a copy too long shows */
 };
 
-/* The record is lent to STEP_TOTALS alone. */
-enum slice { MEMORY, TAGS, STATES, DATA, RESULT, RECORD, SLICES };
+/* The record is lent to STEP_TOTALS alone, and the old tables to the conversions, which are lent the tables besides. */
+enum slice { MEMORY, TAGS, STATES, DATA, RESULT, RECORD, OLD_TAGS, OLD_STATES, OLD_DATA, SLICES };
 
-enum call { FRESH, STEP, AUDIT, STEP_TOTALS };
+/* FROM_OLD reads the old tables and writes the others, TO_OLD the other way. */
+enum call { FRESH, STEP, AUDIT, STEP_TOTALS, FROM_OLD, TO_OLD };
 
 /* The state bytes from I to M, counted from 0. */
 enum { TALLY_STATES = 7 };
@@ -59,6 +61,17 @@ struct tally {
     uint64_t brims[SECOND_TOTALS];      /* calls not refused 9 with the total there at 2^64 - 3 */
     uint64_t full[2][SECOND_TOTALS];    /* calls refused 9 for the total there alone, at 2^64 - 2 and at 2^64 - 1 */
     uint64_t last[SECOND_TOTALS];       /* totals that a call brought above 2^64 - 3 */
+    /* In conversions from old, and to old. */
+    uint64_t conversions[2][12];        /* by refusal */
+    uint64_t converted[2][5];           /* entries of accepted ones, by letter: I, S, E, O, M */
+    uint64_t lengths_alone[2][6];       /* refused 3 for the length of one table: tags, states, data, in and out */
+    uint64_t tens_over_through[2];      /* to old, refused 10: a write-through entry before the byte, or after it */
+    uint64_t there_and_back[2];         /* by the way that came first */
+    /* Of old sets that were converted, or refused 10. */
+    uint64_t old_verdicts[2];           /* that break a rule, and that keep all */
+    uint64_t old_rules[SECOND_RULES];   /* that break that rule alone */
+    uint64_t stepped;                   /* orders on sets that passed the audit */
+    uint64_t stepped_back[2];           /* afterwards to old: accepted, refused 11 */
 };
 
 struct pair {
@@ -73,6 +86,10 @@ struct pair {
     char difference[600]; /* what differed after the last call; empty if nothing did */
 };
 
+/* The first of the three tables that a conversion reads, and of the three that it writes. */
+enum slice pair_input_of(enum call call);
+enum slice pair_output_of(enum call call);
+
 /* Makes room for the slices; 0 if there is none. */
 int pair_open(struct pair *pair);
 void pair_close(struct pair *pair);
@@ -83,10 +100,14 @@ void pair_place(struct pair *pair, enum slice slice, size_t length, unsigned ske
 /* An empty slice with the pointer NULL. */
 void pair_place_null(struct pair *pair, enum slice slice);
 
-/* Places a record of a length at an alignment, with these bytes. */
+/* Places a slice of a length at an alignment, with these bytes. */
+void pair_place_bytes(struct pair *pair, enum slice slice, const uint8_t *bytes, size_t length, unsigned skew);
+
+/* The same for a record. */
 void pair_place_record(struct pair *pair, const uint8_t *bytes, size_t length, unsigned skew);
 
-/* Places the slices that the second model's shape gives, and lends what the second model holds. The record stays. */
+/* Places the slices that the second model's shape gives, and lends what the second model holds. The record and the old
+   tables stay. */
 void pair_lend(struct pair *pair, unsigned skew);
 
 /* Makes a call to the library and to the second model; 1 if all is as expected. */

@@ -1,4 +1,4 @@
-/* What a run of the differential test works with, what its groups share, and the groups on stores and on totals. */
+/* What a run of the differential test works with, what its groups share, and the groups in files of their own. */
 
 #ifndef TESTER_H
 #define TESTER_H
@@ -56,8 +56,11 @@ int run_history(struct tester *tester, int fresh, size_t orders);
 /* A failed history: cut down, then printed; gives 0. */
 int report_history(struct tester *tester);
 
-/* Places slices again, those whose bit is set in wrong (memory, tags, states, data), mostly with other lengths. */
+/* Places slices again, those whose bit is set in wrong (memory or a table), mostly with other lengths. */
 void misplace(struct tester *tester, unsigned wrong);
+
+/* The shape with one number out of its range. */
+struct second_shape out_of_range(struct generator *generator, struct second_shape shape);
 
 /* The groups on stores that store the same: numbers worked out by hand (run 0 and 1), and stores in histories. */
 int stores_numbers(struct tester *tester, uint64_t run);
@@ -68,5 +71,15 @@ int totals_numbers(struct tester *tester, uint64_t run);
 int totals_histories(struct tester *tester, uint64_t run);
 int totals_records(struct tester *tester, uint64_t run);
 int totals_lengths(struct tester *tester, uint64_t run);
+
+/* The groups on tables of the old edition: bytes worked out by hand, any sets there and back, other lengths, the audit
+   of every small set (run 0 to 2) and of any sets, and orders on converted ones. */
+enum { EDITION_PARTS = 7 };
+int edition_numbers(struct tester *tester, uint64_t run);
+int edition_sets(struct tester *tester, uint64_t run);
+int edition_lengths(struct tester *tester, uint64_t run);
+int edition_every_set(struct tester *tester, uint64_t run);
+int edition_audits(struct tester *tester, uint64_t run);
+int edition_orders(struct tester *tester, uint64_t run);
 
 #endif

@@ -487,8 +487,7 @@ int totals_records(struct tester *tester, uint64_t run)
 
 /* Records and answers of other lengths. */
 
-/* The shape with one number out of its range. */
-static struct second_shape out_of_range(struct generator *generator, struct second_shape shape)
+struct second_shape out_of_range(struct generator *generator, struct second_shape shape)
 {
     static const uint64_t odd[3][4] = {{0, 9, 16, UINT64_C(1) << 32}, {0, 3, 128, UINT64_C(1) << 32},
                                        {0, 4097, 65536, UINT64_C(1) << 61}};

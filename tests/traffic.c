@@ -217,8 +217,8 @@ uint64_t traffic_operand(const struct traffic *traffic, struct generator *genera
 
 /* Tables that no history leads to. */
 
-/* A tag beyond the last line; some come back below it if the home line is worked out in 32 bits. */
-static uint32_t tag_beyond(struct generator *generator, struct second_shape shape)
+/* Some come back below the last line if the home line is worked out in 32 bits. */
+uint32_t traffic_tag_beyond(struct generator *generator, struct second_shape shape)
 {
     uint32_t first = (uint32_t)((shape.lines + shape.sets - 1) / shape.sets);
     uint32_t turn = (uint32_t)((UINT64_C(1) << 32) / shape.sets);
@@ -244,7 +244,7 @@ void traffic_damage(const struct traffic *traffic, struct generator *generator, 
 
     switch (generator_below(generator, 16)) {
     case 0: model->states[entry] = no_state(generator); break;
-    case 1: model->tags[entry] = tag_beyond(generator, traffic->shape); break;
+    case 1: model->tags[entry] = traffic_tag_beyond(generator, traffic->shape); break;
     case 2: model->data[entry] ^= UINT64_C(1) << generator_below(generator, 64); break;
     case 3: model->memory[line] ^= UINT64_C(1) << generator_below(generator, 64); break;
     case 4: case 5: model->tags[entry] = line / sets; break;
@@ -276,7 +276,7 @@ void traffic_noise(const struct traffic *traffic, struct generator *generator, s
         model->states[entry] = ways > 0 ? state_bytes[generator_below(generator, 7)] : 0;
         model->data[entry] = some_word(traffic, generator);
         if (generator_percent(generator, wrong))
-            model->tags[entry] = tag_beyond(generator, traffic->shape);
+            model->tags[entry] = traffic_tag_beyond(generator, traffic->shape);
         if (generator_percent(generator, wrong))
             model->states[entry] = no_state(generator);
     }

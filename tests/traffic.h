@@ -46,6 +46,9 @@ void traffic_fill_tables(struct generator *generator, struct second_model *model
 /* Spoils an entry or a word of memory, mostly where the orders go. */
 void traffic_damage(const struct traffic *traffic, struct generator *generator, struct second_model *model);
 
+/* A tag beyond the last line; now and then one that is not. */
+uint32_t traffic_tag_beyond(struct generator *generator, struct second_shape shape);
+
 /* Totals for a record: zeros, few, or close to 2^64 - 3; in half of them just one is above it. */
 void traffic_totals(struct generator *generator, uint64_t totals[SECOND_TOTALS]);
 

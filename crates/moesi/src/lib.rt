@@ -1,7 +1,8 @@
-// The C interface: step, step with totals, fresh and audit on numbers and byte slices, as include/moesi.h declares them. Each returns its
-// refusal, 0 if none.
+// The C interface: step, step with totals, fresh, audit and the conversion of old tables on numbers and byte slices, as include/moesi.h
+// declares them. Each returns its refusal, 0 if none.
 // All that is asked of the caller is that the slices have the lengths that it says and share no byte with one another.
 use counters::lent;
+use edition::letter::Way;
 use model::shape::Shape;
 ghost use mathlib.Core.Path.{_≡_};
 ghost use mathlib.Core.List.{[]};
@@ -10,6 +11,8 @@ ghost use Rattle.decode.specs.Order.{order};
 ghost use Rattle.ports.specs.Bytes.{bytes};
 ghost use Rattle.host.specs.Host.{hosted, hostStep, hostFresh, hostAudit};
 ghost use Rattle.host.specs.Totals.{withRecord, hostStepTotals};
+ghost use Rattle.edition.specs.declared.letter.Way.the-variants.{ToNew, ToOld};
+ghost use Rattle.edition.specs.Convert.{tables, conversion, convert};
 
 // One order: its five numbers go to answer, those of a refused order too. An answer of another length than 40 bytes is left alone.
 #[no_mangle]
@@ -179,4 +182,64 @@ pub extern "C" fn moesi_audit(
     }
     verdict[0] = yes_or_no(audit::audit_tables(shape, memory, tags, states, data));
     0
+}
+
+// Tables of this edition, out of tables of the old one.
+#[no_mangle]
+pub extern "C" fn moesi_from_old(
+    ports: usize,
+    sets: usize,
+    lines: usize,
+    tags: &[u8],
+    states: &[u8],
+    data: &[u8],
+    tags_out: &mut [u8],
+    states_out: &mut [u8],
+    data_out: &mut [u8],
+) -> u64
+    ensures { λ r. ⌜ conversion r (tables (now («tags_out» .exit)) (now («states_out» .exit)) (now («data_out» .exit)))
+        ≡ convert ToNew (record { ports = ports; sets = sets; lines = lines })
+        (tables (now (tags .entry)) (now (states .entry)) (now («data» .entry)))
+        (tables (now («tags_out» .entry)) (now («states_out» .entry)) (now («data_out» .entry))) ⌝ }
+{
+    edition::convert(
+        Way::ToNew,
+        Shape { ports, sets, lines },
+        tags,
+        states,
+        data,
+        tags_out,
+        states_out,
+        data_out,
+    )
+}
+
+// Tables of the old edition, out of tables of this one.
+#[no_mangle]
+pub extern "C" fn moesi_to_old(
+    ports: usize,
+    sets: usize,
+    lines: usize,
+    tags: &[u8],
+    states: &[u8],
+    data: &[u8],
+    tags_out: &mut [u8],
+    states_out: &mut [u8],
+    data_out: &mut [u8],
+) -> u64
+    ensures { λ r. ⌜ conversion r (tables (now («tags_out» .exit)) (now («states_out» .exit)) (now («data_out» .exit)))
+        ≡ convert ToOld (record { ports = ports; sets = sets; lines = lines })
+        (tables (now (tags .entry)) (now (states .entry)) (now («data» .entry)))
+        (tables (now («tags_out» .entry)) (now («states_out» .entry)) (now («data_out» .entry))) ⌝ }
+{
+    edition::convert(
+        Way::ToOld,
+        Shape { ports, sets, lines },
+        tags,
+        states,
+        data,
+        tags_out,
+        states_out,
+        data_out,
+    )
 }

@@ -1,6 +1,6 @@
 // Modes, the seven states of an entry, and the bytes of the state table.
 ghost use mathlib.Core.Path.{_≡_};
-ghost use Rattle.protocol.specs.State.{stateOf, stateRow, orInvalid, isState, valid, owner};
+ghost use Rattle.protocol.specs.State.{code, stateOf, stateRow, orInvalid, isState, valid, owner};
 
 // The mode of an access, and of an entry other than I.
 pub enum Mode {
@@ -36,6 +36,25 @@ pub fn byte_state(b: u8) -> Byte
         11 => Byte::Of(State::O),
         12 => Byte::Of(State::M),
         3..=8 | 13..=255 => Byte::No,
+    }
+}
+
+// The byte of a state.
+pub fn state_byte(s: State) -> u8
+    ensures { λ r. ⌜ r ≡ code s ⌝ }
+{
+    match s {
+        State::I => 0,
+        State::S(m) => match m {
+            Mode::Through => 1,
+            Mode::Back => 9,
+        },
+        State::E(m) => match m {
+            Mode::Through => 2,
+            Mode::Back => 10,
+        },
+        State::O => 11,
+        State::M => 12,
     }
 }
 

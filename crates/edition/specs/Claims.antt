@@ -1,0 +1,44 @@
+-- What is proved of the conversion beside its definition. The proofs are in proofs/Claims.antt.
+use Prim.Native.Nat.{ℕ}
+use mathlib.Core.Path.{_≡_}
+use mathlib.Core.Bool.{true}
+use mathlib.Core.List.{List}
+use Rattle.endian.specs.Little.{numbers}
+use Rattle.ports.specs.Bytes.{bytes, modelIn}
+use Rattle.model.specs.declared.shape.Shape.{Shape}
+use Rattle.model.specs.Shape.{inRange, entries}
+use Rattle.model.specs.Audit.{audit}
+use Rattle.edition.specs.declared.letter.Way.{Way}
+use Rattle.edition.specs.declared.letter.Way.the-variants.{ToNew, ToOld}
+use Rattle.edition.specs.Convert.{Tables, fit, conversion, convert}
+use Rattle.edition.specs.Rules.{OldSet, keepsRules}
+
+-- The other way.
+abbrev pub otherWay : Way → Way
+otherWay ToNew = ToOld
+otherWay ToOld = ToNew
+
+-- Old to new to old, and new to old to new: where the first way is not refused, the way back is not either, and leaves the bytes, tags and
+-- data that there were, whatever fitting tables it is given to write to.
+abbrev pub ThereAndBack : Type 0
+ThereAndBack =
+    (way : Way) (s : Shape) (t out again : Tables) → convert way s t out .refusal ≡ 0 → fit s again ≡ true
+    → convert (otherWay way) s (convert way s t out .out) again ≡ conversion 0 t
+
+-- The numbers that an old set's bytes hold, with the bytes of a main memory beside it.
+unfoldable pub oldIn : Shape → List ℕ → Tables → OldSet
+oldIn s memory t =
+    record { memory = numbers 8 (s .lines) memory; tags = numbers 4 (entries s) (t .tags); states = t .states; words = numbers 8 (entries s) (t .words) }
+
+-- A converted set passes the new audit exactly when the old one keeps the audit's rules read on the five letters, whatever main memory has.
+abbrev pub AuditAgrees : Type 0
+AuditAgrees =
+    (s : Shape) (memory : List ℕ) (t out : Tables) → convert ToNew s t out .refusal ≡ 0
+    → let c = convert ToNew s t out .out in
+    audit s (modelIn s (bytes memory (c .tags) (c .states) (c .words))) ≡ keepsRules s (oldIn s memory t)
+
+-- A set of fitting tables that keeps the rules is not refused.
+abbrev pub KeptConverts : Type 0
+KeptConverts =
+    (s : Shape) (memory : List ℕ) (t out : Tables) → inRange s ≡ true → fit s t ≡ true → fit s out ≡ true
+    → keepsRules s (oldIn s memory t) ≡ true → convert ToNew s t out .refusal ≡ 0
