@@ -32,33 +32,18 @@ use Rattle.edition.specs.Rules as old
 use Rattle.edition.proofs.Letters.{old-cases, no-letter}
 
 -- A letter and its state are held, owners, exclusive and O together.
-held-same : (x : Letter) → valid (inBack x) ≡ isHeld x
-held-same Invalid = refl
-held-same Shared = refl
-held-same Exclusive = refl
-held-same Owned = refl
-held-same Modified = refl
+pub record SameTests (x : Letter) : Type 0 where
+  pub held : valid (inBack x) ≡ isHeld x
+  pub owns : owner (inBack x) ≡ isOwner x
+  pub alone : exclusive (inBack x) ≡ isExclusive x
+  pub owned : isO (inBack x) ≡ old.isO x
 
-owner-same : (x : Letter) → owner (inBack x) ≡ isOwner x
-owner-same Invalid = refl
-owner-same Shared = refl
-owner-same Exclusive = refl
-owner-same Owned = refl
-owner-same Modified = refl
-
-exclusive-same : (x : Letter) → exclusive (inBack x) ≡ isExclusive x
-exclusive-same Invalid = refl
-exclusive-same Shared = refl
-exclusive-same Exclusive = refl
-exclusive-same Owned = refl
-exclusive-same Modified = refl
-
-owned-same : (x : Letter) → isO (inBack x) ≡ old.isO x
-owned-same Invalid = refl
-owned-same Shared = refl
-owned-same Exclusive = refl
-owned-same Owned = refl
-owned-same Modified = refl
+tests-same : (x : Letter) → SameTests x
+tests-same Invalid = record { held = refl; owns = refl; alone = refl; owned = refl }
+tests-same Shared = record { held = refl; owns = refl; alone = refl; owned = refl }
+tests-same Exclusive = record { held = refl; owns = refl; alone = refl; owned = refl }
+tests-same Owned = record { held = refl; owns = refl; alone = refl; owned = refl }
+tests-same Modified = record { held = refl; owns = refl; alone = refl; owned = refl }
 
 -- What is held is in write back, so two holders have one mode.
 held-back : (x : Letter) → Is (isHeld x) → modeOf (inBack x) ≡ Back
@@ -106,7 +91,7 @@ pair-same : (x y : Letter) (w e : Bool) →
     && implies (exclusive (inBack x) && valid (inBack y)) e && implies (isO (inBack x) && isO (inBack y)) e)
     ≡ (implies (isHeld x && isHeld y) w && implies (isExclusive x && isHeld y) e && implies (old.isO x && old.isO y) e)
 pair-same x y w e =
-    rw (held-same x, held-same y, exclusive-same x, owned-same x, owned-same y, one-mode x y, and-all (implies (isHeld x && isHeld y) w)) refl
+    rw (tests-same x .held, tests-same y .held, tests-same x .alone, tests-same x .owned, tests-same y .owned, one-mode x y, and-all (implies (isHeld x && isHeld y) w)) refl
 
 module _ (s : Shape) (t : OldSet) where
   -- The set in the new edition.
@@ -126,7 +111,7 @@ module _ (s : Shape) (t : OldSet) where
   dirty-new : (a : ℕ) → dirty s renewed a ≡ old.hasOwner s t a
   unfolding dirty
   dirty-new a =
-      ap (λ (f : ℕ → Bool). anyBelow f (s .ports)) (fun-ext (λ p. ap owner (seen-new a p) ∙ owner-same (letterSeen s t a p)))
+      ap (λ (f : ℕ → Bool). anyBelow f (s .ports)) (fun-ext (λ p. ap owner (seen-new a p) ∙ tests-same (letterSeen s t a p) .owns))
 
   pair-new : (a p q : ℕ) →
       (new.equalWords s renewed a p q && new.equalModes s renewed a p q && new.exclusiveAlone s renewed a p q && new.oneO s renewed a p q)
@@ -138,7 +123,7 @@ module _ (s : Shape) (t : OldSet) where
 
   clean-new : (a p : ℕ) → new.cleanEqual s renewed a p ≡ old.cleanEqual s t a p
   unfolding wordAt
-  clean-new a p = rw (seen-new a p, held-same (letterSeen s t a p), dirty-new a) refl
+  clean-new a p = rw (seen-new a p, tests-same (letterSeen s t a p) .held, dirty-new a) refl
 
   line-new : (a : ℕ) → linePasses s renewed a ≡ lineKept s t a
   unfolding linePasses lineKept everyTwo
@@ -150,7 +135,7 @@ module _ (s : Shape) (t : OldSet) where
 
   entry-new : (k : ℕ) → Is (isOldByte (getD (t .states) k 0)) → sound s renewed k ≡ entryKept s t k
   unfolding sound entryKept
-  entry-new k h = rw (byte-at k, h, held-same (letterAt s t k)) refl
+  entry-new k h = rw (byte-at k, h, tests-same (letterAt s t k) .held) refl
 
   -- Where every byte is at most 4, the new audit's rules are those on the letters.
   pub audit-new : ((k : ℕ) → k < entries s → isNoState (converted ToNew (getD (t .states) k 0)) ≡ false) → tablesPass s renewed ≡ keepsRules s t
