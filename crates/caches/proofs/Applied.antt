@@ -22,7 +22,7 @@ use Rattle.model.proofs.Below.{below-all}
 use Rattle.model.proofs.Entries.{entry-inj}
 use Rattle.ports.specs.Bytes.{Bytes, modelIn, tablesIn}
 use Rattle.ports.specs.Entry.{putAt}
-use Rattle.ports.specs.Bus.{answered}
+use Rattle.bus.specs.Bus.{answered}
 use Rattle.ports.proofs.Bytes.{model-eq}
 use Rattle.ports.proofs.Puts.{own-last}
 

@@ -25,7 +25,7 @@ use Rattle.ports.specs.Bytes.{Bytes, modelIn, tablesIn}
 use Rattle.ports.specs.Entry.{putAt}
 use Rattle.ports.specs.Line.{Placed}
 use Rattle.ports.specs.Masks.{portsFrom, inMask, masksOf}
-use Rattle.ports.specs.Bus.{answered}
+use Rattle.bus.specs.Bus.{answered}
 use Rattle.ports.proofs.Masks.{in-mask, of-holders}
 use Rattle.ports.proofs.Places.{some, number-is}
 use Rattle.ports.proofs.Surveys.{masks-column}

@@ -20,8 +20,8 @@ use Rattle.ports.specs.declared.survey.Masks.{Masks}
 use Rattle.ports.specs.Bytes.{Bytes, modelIn, tablesIn}
 use Rattle.ports.specs.Line.{Placed}
 use Rattle.ports.specs.Masks.{inMask, OfHolders, masksOf}
-use Rattle.ports.specs.Bus.{answered}
-use Rattle.ports.proofs.Answers.{words-kept}
+use Rattle.bus.specs.Bus.{answered}
+use Rattle.bus.proofs.Answers.{words-kept}
 use Rattle.ports.proofs.Bytes.{model-eq}
 use Rattle.ports.proofs.Masks.{in-mask, of-holders}
 use Rattle.ports.proofs.Places.{some}

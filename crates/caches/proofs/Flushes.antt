@@ -25,10 +25,10 @@ use Rattle.ports.specs.declared.line.Line.{Line}
 use Rattle.ports.specs.Bytes.{Bytes, bytes, modelIn, tablesIn}
 use Rattle.ports.specs.Entry.{putAt}
 use Rattle.ports.specs.Line.{Placed}
-use Rattle.ports.specs.Bus.{AllStates}
+use Rattle.ports.specs.Masks.{AllStates}
 use Rattle.ports.proofs.Bytes.{model-eq}
 use Rattle.ports.proofs.Places.{some, number-is}
-use Rattle.ports.proofs.Answers.{quiet-answered}
+use Rattle.bus.proofs.Answers.{quiet-answered}
 use Rattle.caches.proofs.Applied.{held-together, ruled, put-ruled}
 
 -- A held line: the entry becomes I, and all else in the tables stays.

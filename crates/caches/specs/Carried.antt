@@ -9,7 +9,7 @@ use Rattle.model.specs.Tables.{Model, model}
 use Rattle.model.specs.Step.{store}
 use Rattle.ports.specs.Entry.{putAt}
 use Rattle.ports.specs.Masks.{inMask, OfHolders}
-use Rattle.ports.specs.Bus.{answered}
+use Rattle.bus.specs.Bus.{answered}
 use Rattle.decision.specs.declared.Decision.{Decision}
 
 -- What carrying it out rests on: the mask has holders alone, the command is one, and an evicted word has a line to go to.

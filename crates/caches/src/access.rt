@@ -2,7 +2,6 @@
 use crate::memory;
 use decision::Decision;
 use model::answer::Answer;
-use ports::bus;
 use ports::entry;
 use ports::line::Line;
 use ports::survey::Masks;
@@ -14,8 +13,7 @@ ghost use Prim.Native.Nat.{_<_};
 ghost use Rattle.model.specs.Step.{result, accessed};
 ghost use Rattle.ports.specs.Bytes.{bytes, modelIn, tablesIn, Fitting};
 ghost use Rattle.ports.specs.Line.{Placed};
-ghost use Rattle.ports.specs.Masks.{masksOf};
-ghost use Rattle.ports.specs.Bus.{AllStates};
+ghost use Rattle.ports.specs.Masks.{AllStates, masksOf};
 ghost use Rattle.caches.specs.Carried.{Founded, carried};
 
 // Carries a decision out: the other holders answer, the own entry is put, and at most two words are stored.

@@ -2,7 +2,6 @@
 use crate::memory;
 use decision::supply;
 use model::answer::Answer;
-use ports::bus;
 use ports::entry;
 use ports::line::Line;
 use ports::survey::Masks;

@@ -18,22 +18,19 @@ use Rattle.model.specs.Audit.{audit}
 use Rattle.model.proofs.Lent.{facts-lent}
 use Rattle.lengths.specs.Lengths.{tablesFit}
 use Rattle.lengths.proofs.Lengths.{tables-fitting}
-use Rattle.edition.specs.declared.letter.Way.{Way}
-use Rattle.edition.specs.declared.letter.Way.the-variants.{ToNew}
-use Rattle.edition.specs.declared.letter.Converted.{Converted}
-use Rattle.edition.specs.declared.letter.Converted.the-variants.{To}
-use Rattle.edition.specs.Letters.{letterOf, converted, byteFrom}
+use Rattle.letters.specs.declared.Way.{Way}
+use Rattle.letters.specs.declared.Way.the-variants.{ToNew}
+use Rattle.letters.specs.declared.Converted.{Converted}
+use Rattle.letters.specs.declared.Converted.the-variants.{To}
+use Rattle.letters.specs.Letters.{letterOf, converted, byteFrom}
 use Rattle.edition.specs.Convert.{Tables, tables, fit, conversionRefusal, moved, conversion, convert}
 use Rattle.edition.specs.Rules.{keepsRules}
-use Rattle.edition.specs.Claims.{EveryByte, otherWay, ThereAndBack, oldIn, AuditAgrees, KeptConverts}
-use Rattle.edition.proofs.Letters.{Becomes, returns-byte, old-not-through}
+use Rattle.edition.specs.Claims.{ThereAndBack, oldIn, AuditAgrees, KeptConverts}
+use Rattle.letters.specs.Claims.{Becomes, otherWay}
+use Rattle.letters.proofs.Letters.{returns-byte, old-not-through}
 use Rattle.edition.proofs.Loops.{get-map}
 use Rattle.edition.proofs.Conversions.{all-become, none-refused, tables-moved, accepted}
 use Rattle.edition.proofs.Rules.{audit-new, kept-small}
-
-pub every-byte : EveryByte
-unfolding converted letterOf stateOf code allBelow
-every-byte = record { letters = refl; above-4 = refl; states = refl; in-through = refl; from-3-to-8 = refl; above-12 = refl }
 
 -- Each byte of a table converted.
 abbrev mapped : Way → List ℕ → List ℕ

@@ -16,10 +16,10 @@ use Rattle.model.proofs.Below.{none-below, below-none}
 use Rattle.model.proofs.Loops.{seeking-found}
 use Rattle.lengths.specs.Lengths.{tablesFit}
 use Rattle.lengths.proofs.Lengths.{tables-fitting}
-use Rattle.edition.specs.declared.letter.Way.{Way}
-use Rattle.edition.specs.Letters.{converted, isNoState, isInThrough, byteFrom}
+use Rattle.letters.specs.declared.Way.{Way}
+use Rattle.letters.specs.Letters.{converted, isNoState, isInThrough, byteFrom}
 use Rattle.edition.specs.Convert.{Tables, tables, fit, statesRefusal, conversionRefusal, moved, conversion, convert}
-use Rattle.edition.proofs.Letters.{Becomes}
+use Rattle.letters.specs.Claims.{Becomes}
 use Rattle.edition.proofs.Loops.{Asking, asking-done}
 
 module _ (way : Way) (states : List ℕ) where

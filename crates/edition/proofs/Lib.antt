@@ -1,5 +1,4 @@
 -- Laws of the conversion, and the proofs of what is claimed of it.
-pub mod Letters
 pub mod Loops
 pub mod Conversions
 pub mod Rules

@@ -21,15 +21,15 @@ use Rattle.model.proofs.Below.{below-all}
 use Rattle.model.specs.Tables.{Model, model, sound, seen, wordAt, dirty}
 use Rattle.model.specs.Audit.{entriesSound, everyTwo, linePasses, tablesPass}
 use Rattle.model.specs.Audit as new
-use Rattle.edition.specs.declared.letter.Letter.{Letter}
-use Rattle.edition.specs.declared.letter.Letter.the-variants.{Invalid, Shared, Exclusive, Owned, Modified}
-use Rattle.edition.specs.declared.letter.OldByte.{OldByte}
-use Rattle.edition.specs.declared.letter.OldByte.the-variants.{Known, Unknown}
-use Rattle.edition.specs.declared.letter.Way.the-variants.{ToNew}
-use Rattle.edition.specs.Letters.{letterOf, inBack, toNew, converted, isNoState, byteFrom}
+use Rattle.letters.specs.declared.Letter.{Letter}
+use Rattle.letters.specs.declared.Letter.the-variants.{Invalid, Shared, Exclusive, Owned, Modified}
+use Rattle.letters.specs.declared.OldByte.{OldByte}
+use Rattle.letters.specs.declared.OldByte.the-variants.{Known, Unknown}
+use Rattle.letters.specs.declared.Way.the-variants.{ToNew}
+use Rattle.letters.specs.Letters.{letterOf, inBack, toNew, converted, isNoState, byteFrom}
 use Rattle.edition.specs.Rules.{OldSet, isHeld, isOwner, isExclusive, isOldByte, orInvalid, letterAt, entryKept, letterSeen, lineKept, keepsRules}
 use Rattle.edition.specs.Rules as old
-use Rattle.edition.proofs.Letters.{old-cases, no-letter}
+use Rattle.letters.proofs.Letters.{old-cases, no-letter}
 
 -- A letter and its state are held, owners, exclusive and O together.
 pub record SameTests (x : Letter) : Type 0 where

@@ -1,34 +1,18 @@
 -- What is proved of the conversion beside its definition. The proofs are in proofs/Claims.antt.
-use Prim.Native.Nat.{ℕ, _+_}
+use Prim.Native.Nat.{ℕ}
 use mathlib.Core.Path.{_≡_}
 use mathlib.Core.Bool.{true}
-use mathlib.Core.List.{List, [], _∷_, map}
+use mathlib.Core.List.{List}
 use Rattle.endian.specs.Little.{numbers}
 use Rattle.ports.specs.Bytes.{bytes, modelIn}
 use Rattle.model.specs.declared.shape.Shape.{Shape}
 use Rattle.model.specs.Shape.{inRange, entries}
-use Rattle.model.specs.Below.{allBelow}
 use Rattle.model.specs.Audit.{audit}
-use Rattle.edition.specs.declared.letter.Way.{Way}
-use Rattle.edition.specs.declared.letter.Way.the-variants.{ToNew, ToOld}
-use Rattle.edition.specs.declared.letter.Converted.the-variants.{To, InThrough}
-use Rattle.edition.specs.Letters.{converted, isNoState}
+use Rattle.letters.specs.declared.Way.{Way}
+use Rattle.letters.specs.declared.Way.the-variants.{ToNew}
+use Rattle.letters.specs.Claims.{otherWay}
 use Rattle.edition.specs.Convert.{Tables, fit, conversion, convert}
 use Rattle.edition.specs.Rules.{OldSet, keepsRules}
-
--- What becomes of each of the 256 bytes, in numbers: of an old byte, and of a new one.
-pub record EveryByte : Type 0 where
-  pub letters : map (converted ToNew) (0 ∷ 1 ∷ 2 ∷ 3 ∷ 4 ∷ []) ≡ To 0 ∷ To 9 ∷ To 10 ∷ To 11 ∷ To 12 ∷ []
-  pub above-4 : allBelow (λ k. isNoState (converted ToNew (5 + k))) 251 ≡ true
-  pub states : map (converted ToOld) (0 ∷ 9 ∷ 10 ∷ 11 ∷ 12 ∷ []) ≡ To 0 ∷ To 1 ∷ To 2 ∷ To 3 ∷ To 4 ∷ []
-  pub in-through : map (converted ToOld) (1 ∷ 2 ∷ []) ≡ InThrough ∷ InThrough ∷ []
-  pub from-3-to-8 : allBelow (λ k. isNoState (converted ToOld (3 + k))) 6 ≡ true
-  pub above-12 : allBelow (λ k. isNoState (converted ToOld (13 + k))) 243 ≡ true
-
--- The other way.
-abbrev pub otherWay : Way → Way
-otherWay ToNew = ToOld
-otherWay ToOld = ToNew
 
 -- Old to new to old, and new to old to new: where the first way is not refused, the way back is not either, and leaves the bytes, tags and
 -- data that there were, whatever fitting tables it is given to write to.

@@ -8,8 +8,8 @@ use Rattle.model.specs.declared.shape.Shape.{Shape}
 use Rattle.model.specs.Shape.{inRange}
 use Rattle.model.specs.Below.{anyBelow}
 use Rattle.lengths.specs.Lengths.{tablesFit}
-use Rattle.edition.specs.declared.letter.Way.{Way}
-use Rattle.edition.specs.Letters.{converted, isNoState, isInThrough, byteFrom}
+use Rattle.letters.specs.declared.Way.{Way}
+use Rattle.letters.specs.Letters.{converted, isNoState, isInThrough, byteFrom}
 
 -- Three tables in bytes, of either edition.
 pub record Tables : Type 0 where

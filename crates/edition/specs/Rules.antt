@@ -10,11 +10,11 @@ use Rattle.model.specs.declared.shape.Shape.{Shape}
 use Rattle.model.specs.Shape.{entries, tagOf, entryOf}
 use Rattle.model.specs.Below.{allBelow, anyBelow}
 use Rattle.model.specs.Audit.{everyTwo}
-use Rattle.edition.specs.declared.letter.Letter.{Letter}
-use Rattle.edition.specs.declared.letter.Letter.the-variants.{Invalid, Shared, Exclusive, Owned, Modified}
-use Rattle.edition.specs.declared.letter.OldByte.{OldByte}
-use Rattle.edition.specs.declared.letter.OldByte.the-variants.{Known, Unknown}
-use Rattle.edition.specs.Letters.{letterOf}
+use Rattle.letters.specs.declared.Letter.{Letter}
+use Rattle.letters.specs.declared.Letter.the-variants.{Invalid, Shared, Exclusive, Owned, Modified}
+use Rattle.letters.specs.declared.OldByte.{OldByte}
+use Rattle.letters.specs.declared.OldByte.the-variants.{Known, Unknown}
+use Rattle.letters.specs.Letters.{letterOf}
 
 -- A set of the old edition beside its main memory, as lists of numbers.
 pub record OldSet : Type 0 where

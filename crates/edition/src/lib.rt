@@ -1,12 +1,10 @@
 // Tables of the old edition, which has five states and no mode: three lent tables converted into three others, to the new edition and back.
-pub mod letter;
-
-use letter::Way;
+use letters::Way;
 use model::shape::Shape;
 ghost use mathlib.Core.Path.{_≡_};
 ghost use mathlib.Core.List.{map};
 ghost use lib.ListN.{length};
-ghost use Rattle.edition.specs.Letters.{converted, byteFrom};
+ghost use Rattle.letters.specs.Letters.{converted, byteFrom};
 ghost use Rattle.edition.specs.Convert.{tables, statesRefusal, conversion, convert};
 
 // Refusal 10 or 11 of a state table, else 0. A byte that is no state is told before one in write through, wherever the two stand.
@@ -16,11 +14,11 @@ fn states_refusal(way: Way, states: &[u8]) -> u64
     let mut through = false;
     let mut k = 0;
     while k < states.len() {
-        let c = letter::convert_byte(way, states[k]);
-        if letter::is_no_state(c) {
+        let c = letters::convert_byte(way, states[k]);
+        if letters::is_no_state(c) {
             return 10;
         }
-        through = through | letter::is_in_through(c);
+        through = through | letters::is_in_through(c);
         k += 1;
     }
     if through { 11 } else { 0 }
@@ -45,7 +43,7 @@ fn convert_bytes(way: Way, table: &[u8], out: &mut [u8])
 {
     let mut k = 0;
     while k < table.len() {
-        out[k] = letter::byte_from(letter::convert_byte(way, table[k]));
+        out[k] = letters::byte_from(letters::convert_byte(way, table[k]));
         k += 1;
     }
 }

@@ -2,7 +2,7 @@
 // declares them. Each returns its refusal, 0 if none.
 // All that is asked of the caller is that the slices have the lengths that it says and share no byte with one another.
 use counters::lent;
-use edition::letter::Way;
+use letters::Way;
 use model::shape::Shape;
 ghost use mathlib.Core.Path.{_≡_};
 ghost use mathlib.Core.List.{[]};
@@ -11,7 +11,7 @@ ghost use Rattle.decode.specs.Order.{order};
 ghost use Rattle.ports.specs.Bytes.{bytes};
 ghost use Rattle.host.specs.Host.{hosted, hostStep, hostFresh, hostAudit};
 ghost use Rattle.host.specs.Totals.{withRecord, hostStepTotals};
-ghost use Rattle.edition.specs.declared.letter.Way.the-variants.{ToNew, ToOld};
+ghost use Rattle.letters.specs.declared.Way.the-variants.{ToNew, ToOld};
 ghost use Rattle.edition.specs.Convert.{tables, conversion, convert};
 
 // One order: its five numbers go to answer, those of a refused order too. An answer of another length than 40 bytes is left alone.

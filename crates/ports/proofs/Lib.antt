@@ -5,4 +5,3 @@ pub mod Puts
 pub mod Masks
 pub mod Rotations
 pub mod Surveys
-pub mod Answers

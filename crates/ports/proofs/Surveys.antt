@@ -31,8 +31,7 @@ use Rattle.ports.specs.declared.line.Line.{Line}
 use Rattle.ports.specs.declared.survey.Masks.{Masks}
 use Rattle.ports.specs.Bytes.{Bytes, modelIn, tablesIn}
 use Rattle.ports.specs.Line.{Placed}
-use Rattle.ports.specs.Masks.{portsFrom, lanes, saysOf, lookLanes, masksOf}
-use Rattle.ports.specs.Bus.{AllStates}
+use Rattle.ports.specs.Masks.{portsFrom, AllStates, lanes, saysOf, lookLanes, masksOf}
 use Rattle.ports.proofs.Places.{some, few, tag-is, limit-at, Running, running-first, running-next}
 use Rattle.ports.proofs.Masks.{bit-le, bit-is, mask-lt, mask-next, mask-bit, mask-any, mask-within}
 use Rattle.ports.proofs.Rotations.{rotatedBy, rotated-room, rotated-once, rotated-back}

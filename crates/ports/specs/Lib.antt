@@ -3,4 +3,3 @@ pub mod Bytes
 pub mod Entry
 pub mod Line
 pub mod Masks
-pub mod Bus

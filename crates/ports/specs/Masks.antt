@@ -2,12 +2,15 @@
 use Prim.Native.Nat.{ℕ, zero, suc, _+_, _*_, _/_, _%_, _^_, _<_}
 use mathlib.Core.Path.{_≡_}
 use mathlib.Core.Bool.{Bool, true, cond, _&&_, _||_, not}
+use mathlib.Core.List.{List}
+use lib.ListN.{getD}
 use lib.Dec.{eqb, ltb}
 use Rattle.words.specs.Bools.{bit}
 use Rattle.protocol.specs.declared.state.State.the-variants.{I}
 use Rattle.protocol.specs.State.{stateOf, orInvalid, isState, valid, owner}
 use Rattle.model.specs.declared.shape.Shape.{Shape}
 use Rattle.model.specs.declared.shape.Place.{Place}
+use Rattle.model.specs.Shape.{entryOf}
 use Rattle.model.specs.Tables.{Model, holds, owns, columnSound}
 use Rattle.ports.specs.declared.survey.Masks.{Masks}
 use Rattle.ports.specs.declared.survey.Look.{Look}
@@ -26,6 +29,10 @@ inMask m p = eqb (m / 2 ^ p % 2) 1
 pub record OfHolders (s : Shape) (t : Model) (a m : ℕ) : Type 0 where
   pub ports : m ≡ portsFrom (inMask m) 0 (s .ports)
   pub hold : (p : ℕ) → p < s .ports → inMask m p ≡ true → holds s t a p ≡ true
+
+-- Every port's byte at the line's index is a state.
+abbrev pub AllStates : Shape → ℕ → List ℕ → Type 0
+AllStates s a states = (p : ℕ) → p < s .ports → isState (stateOf (getD states (entryOf s a p) 0)) ≡ true
 
 -- Three masks in one number, 16 bits for each.
 abbrev pub lanes : ℕ → ℕ → ℕ → ℕ

@@ -5,7 +5,7 @@ use mathlib.Core.List.{map}
 use mathlib.Core.Path.{ap, _∙_}
 use native.Mathlib.Omega.{arith}
 use lib.ListN.{length}
-use Rattle.edition.specs.Letters.{converted, byteFrom}
+use Rattle.letters.specs.Letters.{converted, byteFrom}
 use Rattle.edition.proofs.Loops.{Filling, mapping-none, mapping-more, mapping-done, mapping-room}
 use Rattle.edition.proofs.convert_bytes.Statement.{statement}
 use Rattle.edition.proofs.convert_bytes.Tie as tie

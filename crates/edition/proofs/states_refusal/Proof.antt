@@ -4,7 +4,7 @@ use borrow.Author.Needs.{needs}
 use mathlib.Core.Path.{ap, _∙_}
 use native.Mathlib.Omega.{arith}
 use lib.ListN.{length}
-use Rattle.edition.specs.Letters.{isNoState, isInThrough}
+use Rattle.letters.specs.Letters.{isNoState, isInThrough}
 use Rattle.edition.proofs.Loops.{Asking, asking-none, asking-more}
 use Rattle.edition.proofs.Conversions.{noStateAt, inThroughAt, found-no-state, found-through, found-none}
 use Rattle.edition.proofs.states_refusal.Statement.{statement}

@@ -1,0 +1,2 @@
+-- Laws of the answers on the bus, that several proofs cite.
+pub mod Answers

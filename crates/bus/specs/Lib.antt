@@ -1,0 +1,2 @@
+-- A bus command in numbers, and the answers to it.
+pub mod Bus

@@ -1,0 +1,2 @@
+-- Laws of the letters and their bytes.
+pub mod Letters
