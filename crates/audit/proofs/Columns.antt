@@ -16,13 +16,14 @@ use Rattle.protocol.specs.declared.state.Byte.the-variants.{Of, No}
 use Rattle.protocol.specs.State.{isState, orInvalid, valid, owner, exclusive, isO, modeOf, sameMode}
 use Rattle.words.proofs.Bools.{Is, and-l, and-r, both, not-both, not-is, by-bool}
 use Rattle.protocol.proofs.States.{owner-valid, exclusive-valid, O-valid, mode-itself}
-use Rattle.model.specs.declared.shape.Shape.{Shape}
-use Rattle.model.specs.Shape.{entries, indexOf, tagOf, entryOf}
+use Rattle.shape.specs.declared.Shape.{Shape}
+use Rattle.shape.specs.Shape.{entries, indexOf, tagOf, entryOf}
 use Rattle.model.specs.Tables.{Model, lentRefusal, stateAt, homeAt, sound, seen, wordAt, memoryAt, holds, owns}
 use Rattle.model.specs.Audit.{audit, Coherent}
 use Rattle.model.proofs.Below.{all-below, below-all}
 use Rattle.model.proofs.Entries.{seen-tag, seen-here}
-use Rattle.model.proofs.Lent.{lent-facts, some-sets}
+use Rattle.model.proofs.Lent.{lent-facts}
+use Rattle.shape.proofs.Bounds.{some-sets}
 use Rattle.model.proofs.Audited.{audit-facts, facts-audit}
 use Rattle.audit.specs.Entries.{entryPasses, indexPasses, columnsPass}
 use Rattle.audit.proofs.Fine.{or-mp, or-imp, numberBy, tagBy, byteBy, stateBy, wordBy, homeBy, Fits, fits-flip, Fine, passes-fine}

@@ -9,7 +9,7 @@ use Rattle.protocol.specs.declared.state.State.{State}
 use Rattle.protocol.specs.declared.state.Byte.{Byte}
 use Rattle.protocol.specs.State.{stateOf, isState, valid, owner}
 use Rattle.words.proofs.Bools.{Is, and-l, and-r, both, or-l, or-r, by-bool, not-both, not-is}
-use Rattle.model.specs.declared.shape.Shape.{Shape}
+use Rattle.shape.specs.declared.Shape.{Shape}
 use Rattle.model.specs.Tables.{Model, stateAt, memoryAt}
 use Rattle.model.proofs.Below.{all-below, below-all, none-below, below-none}
 use Rattle.audit.specs.declared.Held.{Held}

@@ -8,8 +8,8 @@ use native.Mathlib.Omega.{arith}
 use Rattle.protocol.specs.State.{stateOf}
 use Rattle.endian.specs.Little.{numbers}
 use Rattle.endian.proofs.Little.{get-numbers}
-use Rattle.model.specs.declared.shape.Shape.{Shape}
-use Rattle.model.specs.Shape.{entries}
+use Rattle.shape.specs.declared.Shape.{Shape}
+use Rattle.shape.specs.Shape.{entries}
 use Rattle.model.specs.Audit.{audit}
 use Rattle.ports.specs.Bytes.{Bytes, modelIn, tablesIn, Fitting}
 use Rattle.ports.specs.Entry.{tagIn, wordIn}

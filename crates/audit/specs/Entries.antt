@@ -11,7 +11,7 @@ use Rattle.protocol.specs.declared.state.State.the-variants.{I, S, E, O, M}
 use Rattle.protocol.specs.declared.state.Byte.{Byte}
 use Rattle.protocol.specs.declared.state.Byte.the-variants.{Of, No}
 use Rattle.protocol.specs.State.{stateOf}
-use Rattle.model.specs.declared.shape.Shape.{Shape}
+use Rattle.shape.specs.declared.Shape.{Shape}
 use Rattle.model.specs.Below.{allBelow, anyBelow}
 use Rattle.model.specs.Tables.{Model, memoryAt}
 use Rattle.audit.specs.declared.Held.{Held}

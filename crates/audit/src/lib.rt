@@ -1,15 +1,15 @@
 // The audit of main memory and the tables in bytes, entry by entry: its cost follows the entries, not the lines. What two holders of a line
 // ask of each other is asked once, at the turn of the higher port.
-use model::shape::Shape;
 use ports::entry;
 use protocol::rules;
 use protocol::state;
+use shape::Shape;
 ghost use mathlib.Core.Path.{_≡_};
 ghost use Prim.Native.Nat.{_*_, _<_};
 ghost use lib.ListN.{length};
 ghost use Rattle.endian.specs.Little.{numbers};
 ghost use Rattle.protocol.specs.State.{stateOf};
-ghost use Rattle.model.specs.Shape.{entries};
+ghost use Rattle.shape.specs.Shape.{entries};
 ghost use Rattle.model.specs.Audit.{audit};
 ghost use Rattle.ports.specs.Bytes.{bytes, modelIn, tablesIn, Filled, Fitting};
 ghost use Rattle.audit.specs.Entries.{classOf, isOwner, heldAt, compatible, goesWith, pairPasses, belowPass, ownsAt, ownedAt, entryPasses, indexPasses};

@@ -25,8 +25,8 @@ use Rattle.protocol.proofs.Rows.{snooped-is}
 use Rattle.protocol.proofs.Kept.{quiet-same, quiet-keeps}
 use Rattle.endian.specs.Little.{number, numbers, bytesOf}
 use Rattle.endian.proofs.Little.{set-numbers}
-use Rattle.model.specs.declared.shape.Shape.{Shape}
-use Rattle.model.specs.Shape.{entries, entryOf}
+use Rattle.shape.specs.declared.Shape.{Shape}
+use Rattle.shape.specs.Shape.{entries, entryOf}
 use Rattle.model.specs.Tables.{Model, seen, wordAt, holds}
 use Rattle.model.specs.Step.{putBelow, byteAnswered, wordAnswered}
 use Rattle.model.proofs.Entries.{putBelow-other, entry-lt, entry-inj, seen-tag, seen-here}

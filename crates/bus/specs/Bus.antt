@@ -8,8 +8,8 @@ use Rattle.endian.specs.Little.{bytesOf}
 use Rattle.protocol.specs.declared.rules.Bus.{Bus}
 use Rattle.protocol.specs.Rules.{updates}
 use Rattle.protocol.specs.Coded.{busAt, nibbleAt, snoopRow}
-use Rattle.model.specs.declared.shape.Shape.{Shape}
-use Rattle.model.specs.Shape.{entryOf}
+use Rattle.shape.specs.declared.Shape.{Shape}
+use Rattle.shape.specs.Shape.{entryOf}
 use Rattle.model.specs.Tables.{Model, model}
 use Rattle.model.specs.Step.{putBelow, byteAnswered, wordAnswered}
 use Rattle.bus.specs.declared.Command.{Command}

@@ -14,8 +14,8 @@ use Rattle.words.proofs.Bools.{Is, and-r}
 use Rattle.protocol.specs.declared.rules.Rule.{Rule}
 use Rattle.protocol.specs.State.{code, stateOf, isState, valid, owner}
 use Rattle.protocol.proofs.States.{owner-valid}
-use Rattle.model.specs.declared.shape.Shape.{Shape}
-use Rattle.model.specs.Shape.{tagOf, entryOf}
+use Rattle.shape.specs.declared.Shape.{Shape}
+use Rattle.shape.specs.Shape.{tagOf, entryOf}
 use Rattle.model.specs.Tables.{Model, model, stateAt, homeAt, sound, holds, columnSound}
 use Rattle.model.specs.Step.{putBelow, store, byteAnswered, wordAnswered, byteAfter, wordAfter}
 use Rattle.model.proofs.Below.{below-all}

@@ -14,8 +14,8 @@ use Rattle.protocol.specs.declared.state.Mode.{Mode}
 use Rattle.protocol.specs.declared.rules.Rule.{Rule}
 use Rattle.protocol.specs.Coded.{busAt}
 use Rattle.protocol.proofs.Rows.{bus-below, bus-at}
-use Rattle.model.specs.declared.shape.Shape.{Shape}
-use Rattle.model.specs.Shape.{entryOf}
+use Rattle.shape.specs.declared.Shape.{Shape}
+use Rattle.shape.specs.Shape.{entryOf}
 use Rattle.model.specs.Tables.{Model, sound, seen, wordAt, holds}
 use Rattle.model.specs.Step.{result, store, byteAnswered, wordAnswered, wordFound, evictsOwner, applied, accessRule}
 use Rattle.model.specs.Step.{accessed}

@@ -9,9 +9,9 @@ use Rattle.words.specs.Word.{merge}
 use Rattle.protocol.specs.declared.rules.Bus.{Bus}
 use Rattle.protocol.specs.declared.rules.Bus.the-variants.{Invalidate}
 use Rattle.protocol.specs.Rules.{updates}
-use Rattle.model.specs.declared.shape.Shape.{Shape}
+use Rattle.shape.specs.declared.Shape.{Shape}
 use Rattle.model.specs.declared.answer.Answer.{Answer}
-use Rattle.model.specs.Shape.{entryOf}
+use Rattle.shape.specs.Shape.{entryOf}
 use Rattle.model.specs.Tables.{Model, model, seen, holds, dirty}
 use Rattle.model.specs.Step.{result, accepted, store, putBelow, wordSupplied, byteAnswered, deviceWritten}
 use Rattle.model.proofs.Entries.{entry-inj}

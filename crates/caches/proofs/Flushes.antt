@@ -15,9 +15,9 @@ use Rattle.protocol.specs.State.{code}
 use Rattle.protocol.specs.Rules.{flushRule}
 use Rattle.protocol.proofs.States.{owner-valid}
 use Rattle.protocol.proofs.Kept.{flush-own, flush-bus}
-use Rattle.model.specs.declared.shape.Shape.{Shape}
+use Rattle.shape.specs.declared.Shape.{Shape}
 use Rattle.model.specs.declared.answer.Answer.{Answer}
-use Rattle.model.specs.Shape.{entryOf}
+use Rattle.shape.specs.Shape.{entryOf}
 use Rattle.model.specs.Tables.{Model, model, seen, wordAt, holds, owns}
 use Rattle.model.specs.Step.{result, accepted, store, byteAnswered, wordAnswered, evictsOwner, byteAfter, wordAfter, applied, flushed}
 use Rattle.model.proofs.Entries.{seen-tag}

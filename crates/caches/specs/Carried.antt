@@ -3,8 +3,8 @@ use Prim.Native.Nat.{ℕ, _<_}
 use mathlib.Core.Path.{_≡_}
 use mathlib.Core.Bool.{true}
 use Rattle.protocol.specs.Coded.{busAt}
-use Rattle.model.specs.declared.shape.Shape.{Shape}
-use Rattle.model.specs.Shape.{entryOf}
+use Rattle.shape.specs.declared.Shape.{Shape}
+use Rattle.shape.specs.Shape.{entryOf}
 use Rattle.model.specs.Tables.{Model, model}
 use Rattle.model.specs.Step.{store}
 use Rattle.ports.specs.Entry.{putAt}

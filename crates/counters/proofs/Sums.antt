@@ -13,7 +13,7 @@ use lib.Dec.{eqb, ltb}
 use borrow.Author.Tests.{eq-eqb, ne-eqb, ltb-true, ltb-false, not-true}
 use Rattle.words.specs.Bools.{bit}
 use Rattle.words.proofs.Bools.{not-both, by-bool, by-cond}
-use Rattle.model.specs.declared.shape.Shape.{Shape}
+use Rattle.shape.specs.declared.Shape.{Shape}
 use Rattle.model.specs.declared.answer.Answer.{Answer}
 use Rattle.model.specs.Order.{Order, kinds, kindOf}
 use Rattle.model.specs.Tables.{Model}

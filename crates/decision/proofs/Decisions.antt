@@ -18,9 +18,9 @@ use Rattle.protocol.specs.State.{stateOf, orInvalid, isState, owner}
 use Rattle.protocol.specs.Rules.{rule}
 use Rattle.protocol.specs.Coded.{coded}
 use Rattle.protocol.proofs.States.{not-valid}
-use Rattle.model.specs.declared.shape.Shape.{Shape}
+use Rattle.shape.specs.declared.Shape.{Shape}
 use Rattle.model.specs.declared.answer.Answer.{Answer}
-use Rattle.model.specs.Shape.{entryOf}
+use Rattle.shape.specs.Shape.{entryOf}
 use Rattle.model.specs.Tables.{Model, stateAt, homeAt, sound, seen, wordAt, holds, dirty}
 use Rattle.model.specs.Step.{accepted, wordSupplied, shared, wordFound, fetches, evictsOwner, accessRule}
 use Rattle.model.specs.Step.{accessed}

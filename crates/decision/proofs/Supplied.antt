@@ -6,7 +6,7 @@ use native.Mathlib.Omega.{arith}
 use lib.ListN.{getD}
 use lib.Count.{trailingZeros}
 use Rattle.endian.specs.Little.{numbers}
-use Rattle.model.specs.Shape.{entries}
+use Rattle.shape.specs.Shape.{entries}
 use Rattle.model.specs.Tables.{seen, wordAt, memoryAt, owns}
 use Rattle.model.specs.Step.{wordSupplied}
 use Rattle.ports.specs.declared.line.Line.{Line}

@@ -7,8 +7,8 @@ use Rattle.words.specs.Access.{effectAt}
 use Rattle.protocol.specs.declared.state.Mode.{Mode}
 use Rattle.protocol.specs.State.{code}
 use Rattle.protocol.specs.Coded.{busNumber}
-use Rattle.model.specs.declared.shape.Shape.{Shape}
-use Rattle.model.specs.Shape.{tagOf}
+use Rattle.shape.specs.declared.Shape.{Shape}
+use Rattle.shape.specs.Shape.{tagOf}
 use Rattle.model.specs.Tables.{Model, wordAt, holds}
 use Rattle.model.specs.Step.{wordFound, victim, evictsOwner, accessRule, accessed}
 use Rattle.ports.specs.Masks.{portsFrom}

@@ -2,8 +2,8 @@
 use model::order::Call;
 use model::order::Decoded;
 use model::order::KINDS;
-use model::shape::Shape;
 use protocol::state::Mode;
+use shape::Shape;
 use words::access::Access;
 ghost use mathlib.Core.Path.{_≡_};
 ghost use Rattle.model.specs.Order.{bits, modeIn, checked, callOf, decode};

@@ -9,8 +9,8 @@ use borrow.Author.Tests.{eq-eqb}
 use Rattle.words.proofs.Bools.{Is}
 use Rattle.endian.proofs.Little.{length-numbers}
 use Rattle.ports.specs.Bytes.{bytes, modelIn}
-use Rattle.model.specs.declared.shape.Shape.{Shape}
-use Rattle.model.specs.Shape.{inRange, entries}
+use Rattle.shape.specs.declared.Shape.{Shape}
+use Rattle.shape.specs.Shape.{inRange, entries}
 use Rattle.protocol.specs.State.{code, stateOf}
 use Rattle.model.specs.Below.{allBelow}
 use Rattle.model.specs.Tables.{lentRefusal}

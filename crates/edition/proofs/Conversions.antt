@@ -9,8 +9,8 @@ use lib.Dec.{eqb}
 use lib.ListN.{getD, length}
 use borrow.Author.Tests.{eq-eqb, ne-eqb, not-true, not-false}
 use Rattle.words.proofs.Bools.{Is, and-l, and-r, by-cond}
-use Rattle.model.specs.declared.shape.Shape.{Shape}
-use Rattle.model.specs.Shape.{inRange}
+use Rattle.shape.specs.declared.Shape.{Shape}
+use Rattle.shape.specs.Shape.{inRange}
 use Rattle.model.specs.Below.{anyBelow}
 use Rattle.model.proofs.Below.{none-below, below-none}
 use Rattle.model.proofs.Loops.{seeking-found}

@@ -14,8 +14,8 @@ use Rattle.protocol.specs.declared.state.Mode.the-variants.{Back}
 use Rattle.protocol.specs.declared.state.Byte.the-variants.{Of}
 use Rattle.protocol.specs.State.{code, stateOf, valid, owner, exclusive, isO, modeOf, sameMode}
 use Rattle.protocol.proofs.States.{stateOf-code}
-use Rattle.model.specs.declared.shape.Shape.{Shape}
-use Rattle.model.specs.Shape.{entries, tagOf, entryOf}
+use Rattle.shape.specs.declared.Shape.{Shape}
+use Rattle.shape.specs.Shape.{entries, tagOf, entryOf}
 use Rattle.model.specs.Below.{allBelow, anyBelow}
 use Rattle.model.proofs.Below.{below-all}
 use Rattle.model.specs.Tables.{Model, model, sound, seen, wordAt, dirty}

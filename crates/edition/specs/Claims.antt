@@ -5,8 +5,8 @@ use mathlib.Core.Bool.{true}
 use mathlib.Core.List.{List}
 use Rattle.endian.specs.Little.{numbers}
 use Rattle.ports.specs.Bytes.{bytes, modelIn}
-use Rattle.model.specs.declared.shape.Shape.{Shape}
-use Rattle.model.specs.Shape.{inRange, entries}
+use Rattle.shape.specs.declared.Shape.{Shape}
+use Rattle.shape.specs.Shape.{inRange, entries}
 use Rattle.model.specs.Audit.{audit}
 use Rattle.letters.specs.declared.Way.{Way}
 use Rattle.letters.specs.declared.Way.the-variants.{ToNew}

@@ -4,8 +4,8 @@ use mathlib.Core.Bool.{Bool, cond, _&&_}
 use mathlib.Core.List.{List, map}
 use lib.ListN.{getD, length}
 use lib.Dec.{eqb}
-use Rattle.model.specs.declared.shape.Shape.{Shape}
-use Rattle.model.specs.Shape.{inRange}
+use Rattle.shape.specs.declared.Shape.{Shape}
+use Rattle.shape.specs.Shape.{inRange}
 use Rattle.model.specs.Below.{anyBelow}
 use Rattle.lengths.specs.Lengths.{tablesFit}
 use Rattle.letters.specs.declared.Way.{Way}

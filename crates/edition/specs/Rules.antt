@@ -6,8 +6,8 @@ use mathlib.Core.List.{List}
 use lib.ListN.{getD}
 use lib.Dec.{eqb, ltb, leb}
 use Rattle.words.specs.Bools.{implies}
-use Rattle.model.specs.declared.shape.Shape.{Shape}
-use Rattle.model.specs.Shape.{entries, tagOf, entryOf}
+use Rattle.shape.specs.declared.Shape.{Shape}
+use Rattle.shape.specs.Shape.{entries, tagOf, entryOf}
 use Rattle.model.specs.Below.{allBelow, anyBelow}
 use Rattle.model.specs.Audit.{everyTwo}
 use Rattle.letters.specs.declared.Letter.{Letter}

@@ -1,6 +1,6 @@
 // Tables of the old edition, which has five states and no mode: three lent tables converted into three others, to the new edition and back.
 use letters::Way;
-use model::shape::Shape;
+use shape::Shape;
 ghost use mathlib.Core.Path.{_≡_};
 ghost use mathlib.Core.List.{map};
 ghost use lib.ListN.{length};

@@ -10,16 +10,17 @@ use lib.Dec.{eqb, leb}
 use native.Mathlib.Omega.{arith}
 use borrow.Author.Tests.{eq-eqb, ne-eqb, le-leb, lt-leb, eqb-true, leb-false, not-true, not-false}
 use Rattle.words.proofs.Bools.{by-cond}
-use Rattle.model.specs.declared.shape.Shape.{Shape}
+use Rattle.shape.specs.declared.Shape.{Shape}
 use Rattle.model.specs.declared.found.Found.{Found}
 use Rattle.model.specs.declared.found.Found.the-variants.{Refused, Holder, Memory}
-use Rattle.model.specs.Shape.{refusalOf, entryOf}
+use Rattle.shape.specs.Shape.{refusalOf, entryOf}
 use Rattle.model.specs.Below.{lowest}
 use Rattle.model.specs.Tables.{Model, model, lentRefusal, sound, seen, wordAt, memoryAt, holds, columnSound}
 use Rattle.model.specs.Find.{holderOr, find, wordsOf, view}
 use Rattle.model.proofs.Below.{lowest-cases}
 use Rattle.model.proofs.Entries.{entry-lt}
-use Rattle.model.proofs.Lent.{Lent, lent-facts, some-sets}
+use Rattle.model.proofs.Lent.{Lent, lent-facts}
+use Rattle.shape.proofs.Bounds.{some-sets}
 
 module _ (s : Shape) (t : Model) (a : ℕ) {r : ℕ} (e : r ≡ refusalOf s (length (t .memory)) (length (t .tags)) (length (t .states))
     (length (t .words))) where

@@ -11,15 +11,14 @@ use Rattle.protocol.specs.declared.state.State.{State}
 use Rattle.protocol.specs.declared.state.State.the-variants.{I}
 use Rattle.protocol.specs.State.{stateOf, orInvalid, isState, valid}
 use Rattle.model.specs.declared.found.Found.the-variants.{Holder, Memory}
-use Rattle.model.specs.declared.shape.Shape.{Shape}
-use Rattle.model.specs.declared.shape.Place.{Place}
-use Rattle.model.specs.Shape.{inRange, indexOf, tagOf, entryOf, placeOf}
+use Rattle.shape.specs.declared.Shape.{Shape}
+use Rattle.shape.specs.declared.Place.{Place}
+use Rattle.shape.specs.Shape.{inRange, indexOf, tagOf, entryOf, placeOf}
 use Rattle.model.specs.Tables.{model, sound, seen, holds}
 use Rattle.model.specs.Below.{lowest}
 use Rattle.model.specs.Find.{holderOr}
-use Rattle.model.proofs.Bounds.{limit-is}
+use Rattle.shape.proofs.Bounds.{limit-is, some-sets}
 use Rattle.model.proofs.Entries.{entry-index}
-use Rattle.model.proofs.Lent.{some-sets}
 use Rattle.model.proofs.Loops.{Searching, searching-found, searching-done}
 
 valid-here : (b : Bool) (x : State) → (b && valid x) ≡ valid (cond b x I)

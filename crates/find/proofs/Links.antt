@@ -5,13 +5,13 @@ use mathlib.Core.Bool.{true}
 use mathlib.Core.List.{List}
 use lib.ListN.{length}
 use native.Mathlib.Omega.{arith}
-use Rattle.model.specs.declared.shape.Shape.{Shape}
-use Rattle.model.specs.declared.shape.Place.{Place}
-use Rattle.model.specs.Shape.{inRange, entries, refusalOf, entryOf, placeOf}
+use Rattle.shape.specs.declared.Shape.{Shape}
+use Rattle.shape.specs.declared.Place.{Place}
+use Rattle.shape.specs.Shape.{inRange, entries, refusalOf, entryOf, placeOf}
 use Rattle.model.specs.Tables.{model, lentRefusal}
-use Rattle.model.proofs.Bounds.{bounded}
+use Rattle.shape.proofs.Bounds.{bounded, some-sets}
 use Rattle.model.proofs.Entries.{entry-lt}
-use Rattle.model.proofs.Lent.{lent-facts, some-sets}
+use Rattle.model.proofs.Lent.{lent-facts}
 use Rattle.find.specs.Ready.{Ready}
 
 -- The number of a port's entry, from the line's place; it is small.

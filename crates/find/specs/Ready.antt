@@ -4,8 +4,8 @@ use mathlib.Core.Path.{_≡_}
 use mathlib.Core.Bool.{true}
 use mathlib.Core.List.{List}
 use lib.ListN.{length}
-use Rattle.model.specs.declared.shape.Shape.{Shape}
-use Rattle.model.specs.Shape.{inRange, entries}
+use Rattle.shape.specs.declared.Shape.{Shape}
+use Rattle.shape.specs.Shape.{inRange, entries}
 
 -- The shape is in range, line a is there, and the tables of tags and states have the shape's entries.
 pub record Ready (s : Shape) (tags states : List ℕ) (a : ℕ) : Type 0 where

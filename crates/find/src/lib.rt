@@ -1,13 +1,13 @@
 // Where a line's word stands, and the view of that word.
 use model::found::Found;
-use model::shape::Shape;
 use protocol::state;
+use shape::Shape;
 ghost use mathlib.Core.Path.{_≡_};
 ghost use mathlib.Core.Bool.{true};
 ghost use mathlib.Core.List.{[], _∷_};
 ghost use Prim.Native.Nat.{_<_};
 ghost use lib.ListN.{getD, length};
-ghost use Rattle.model.specs.Shape.{inRange, entries, entryOf};
+ghost use Rattle.shape.specs.Shape.{inRange, entries, entryOf};
 ghost use Rattle.model.specs.Below.{lowest};
 ghost use Rattle.model.specs.Tables.{model, sound, holds, columnSound};
 ghost use Rattle.model.specs.Find.{holderOr, find, view};

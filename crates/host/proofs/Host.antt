@@ -13,9 +13,9 @@ use Rattle.endian.specs.Little.{bytesOf, encoded}
 use Rattle.endian.proofs.Little.{same-bytes}
 use Rattle.lengths.proofs.Lengths.{accepted-fits, out-fits}
 use Rattle.answers.specs.Answers.{answerBytes}
-use Rattle.model.specs.declared.shape.Shape.{Shape}
+use Rattle.shape.specs.declared.Shape.{Shape}
 use Rattle.model.specs.declared.answer.Answer.{Answer}
-use Rattle.model.specs.Shape.{entries}
+use Rattle.shape.specs.Shape.{entries}
 use Rattle.model.specs.Order.{Order}
 use Rattle.model.specs.Tables.{lentRefusal}
 use Rattle.model.specs.Step.{result, refused, step}

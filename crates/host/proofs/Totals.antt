@@ -12,7 +12,7 @@ use Rattle.words.proofs.Bools.{and-none, and-all, by-bool, by-cond}
 use Rattle.endian.specs.Little.{number, encoded}
 use Rattle.endian.proofs.Little.{number-at, same-bytes}
 use Rattle.ports.specs.Bytes.{Bytes, modelIn}
-use Rattle.model.specs.declared.shape.Shape.{Shape}
+use Rattle.shape.specs.declared.Shape.{Shape}
 use Rattle.model.specs.declared.answer.Answer.{Answer}
 use Rattle.model.specs.Order.{Order, kindOf}
 use Rattle.model.specs.Step.{Result, accepted, refused, step}

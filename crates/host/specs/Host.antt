@@ -9,7 +9,7 @@ use Rattle.endian.specs.Little.{encoded}
 use Rattle.lengths.specs.Lengths.{refusalBy}
 use Rattle.answers.specs.Answers.{answerBytes}
 use Rattle.ports.specs.Bytes.{Bytes, bytes, modelIn}
-use Rattle.model.specs.declared.shape.Shape.{Shape}
+use Rattle.shape.specs.declared.Shape.{Shape}
 use Rattle.model.specs.Order.{Order}
 use Rattle.model.specs.Tables.{Model}
 use Rattle.model.specs.Step.{refused, step}

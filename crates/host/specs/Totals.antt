@@ -7,7 +7,7 @@ use lib.ListN.{length, drop, replicate}
 use lib.Dec.{eqb}
 use Rattle.endian.specs.Little.{number}
 use Rattle.ports.specs.Bytes.{Bytes, modelIn}
-use Rattle.model.specs.declared.shape.Shape.{Shape}
+use Rattle.shape.specs.declared.Shape.{Shape}
 use Rattle.model.specs.declared.answer.Answer.{Answer}
 use Rattle.model.specs.Order.{Order, kindOf}
 use Rattle.model.specs.Step.{accepted, refused}

@@ -7,8 +7,8 @@ use native.Mathlib.Omega.{arith}
 use lib.Dec.{eqb}
 use borrow.Author.Tests.{eqb-true}
 use Rattle.words.proofs.Bools.{Is, and-l, and-r, and-none, by-cond}
-use Rattle.model.specs.declared.shape.Shape.{Shape}
-use Rattle.model.specs.Shape.{inRange, entries}
+use Rattle.shape.specs.declared.Shape.{Shape}
+use Rattle.shape.specs.Shape.{inRange, entries}
 use Rattle.lengths.specs.Lengths.{tablesFit, bytesFit, refusalBy}
 
 -- Tables that fit, length by length.

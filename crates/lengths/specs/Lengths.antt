@@ -2,8 +2,8 @@
 use Prim.Native.Nat.{ℕ, _*_}
 use mathlib.Core.Bool.{Bool, cond, _&&_}
 use lib.Dec.{eqb}
-use Rattle.model.specs.declared.shape.Shape.{Shape}
-use Rattle.model.specs.Shape.{inRange, entries}
+use Rattle.shape.specs.declared.Shape.{Shape}
+use Rattle.shape.specs.Shape.{inRange, entries}
 
 -- Tables of these lengths have exactly the bytes of the entries that the shape gives.
 unfoldable pub tablesFit : Shape → ℕ → ℕ → ℕ → Bool

@@ -1,8 +1,8 @@
 // Refusals 2 and 3 of what a host lends: the shape, and the lengths of the slices in bytes.
-use model::shape::Shape;
+use shape::Shape;
 ghost use mathlib.Core.Path.{_≡_};
 ghost use mathlib.Core.Bool.{true};
-ghost use Rattle.model.specs.Shape.{inRange};
+ghost use Rattle.shape.specs.Shape.{inRange};
 ghost use Rattle.lengths.specs.Lengths.{tablesFit, bytesFit, refusalBy};
 
 // The lengths of the three tables in bytes are those of the shape.

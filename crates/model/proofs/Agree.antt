@@ -20,12 +20,12 @@ use Rattle.protocol.specs.Rules.{flushRule}
 use Rattle.words.proofs.Bools.{Is, and-none, by-bool}
 use Rattle.words.proofs.Effects.{write-effect, unaltered}
 use Rattle.protocol.proofs.Kept.{flush-own, flush-bus, flush-stores, quiet-same, quiet-keeps}
-use Rattle.model.specs.declared.shape.Shape.{Shape}
+use Rattle.shape.specs.declared.Shape.{Shape}
 use Rattle.model.specs.declared.order.Call.{Call}
 use Rattle.model.specs.declared.order.Call.the-variants.{ByPort, Flush, DeviceRead, DeviceWrite}
 use Rattle.model.specs.declared.order.Decoded.{Decoded}
 use Rattle.model.specs.declared.order.Decoded.the-variants.{Asked, Refused}
-use Rattle.model.specs.Shape.{inRange, entryOf}
+use Rattle.shape.specs.Shape.{entryOf}
 use Rattle.model.specs.Order.{Order, decode, looks, There}
 use Rattle.model.specs.Tables.{Model, sound, seen, wordAt, memoryAt, holds, owns, dirty, columnSound}
 use Rattle.model.specs.Step.{Result, wordSupplied, shared, wordFound, applied, accessRule, accessed, flushed, deviceWritten, called, perform, step}
@@ -33,18 +33,18 @@ use Rattle.model.specs.Flat.{Flat, FlatResult, wordIn, markIn, flatAcces
 use Rattle.model.specs.Agreement.{Agrees}
 use Rattle.model.proofs.Below.{all-below, none-below}
 use Rattle.model.proofs.Line.{Unowned, After, word-supplied, word-found, access-good, access-ownerless, gone-good}
-use Rattle.model.proofs.Entries.{Sized, entry-lt}
+use Rattle.model.proofs.Entries.{entry-lt}
 use Rattle.model.proofs.Touched.{LineGood, Tidy, Ready, Leaves}
 use Rattle.model.proofs.Applied.{line-after, leaves}
 use Rattle.model.proofs.Written.{line-written, unowned-written, leaves-written}
-use Rattle.model.proofs.Lent.{facts-lent, some-sets}
+use Rattle.model.proofs.Lent.{Lent, facts-lent, relent}
+use Rattle.shape.proofs.Bounds.{some-sets}
 use Rattle.model.proofs.Moved.{Moved, access-moves, written-moves, unmarked-access}
 use Rattle.model.proofs.Decoded.{Sound, decode-sound}
 
 -- Tables that go with a flat memory: what every order keeps.
 pub record Sim (s : Shape) (t : Model) (f : Flat) : Type 0 where
-  pub range : Is (inRange s)
-  pub sized : Sized s t
+  pub lent : Lent s t
   pub tidy : Tidy s t
   pub flat-words : length (f .words) ≡ s .lines
   pub flat-marks : length (f .marks) ≡ s .lines
@@ -58,7 +58,7 @@ pub record Goes (s : Shape) (r : Result) (g : FlatResult) : Type 0 where
 
 module _ (s : Shape) (t : Model) (f : Flat) (sim : Sim s t f) (a : ℕ) (line : a < s .lines) where
   ready : Ready s t a
-  ready = record { pos = some-sets s (sim .range); sized = sim .sized; tidy = sim .tidy; line = line }
+  ready = record { pos = some-sets s (sim .lent .range); sized = sim .lent .sizes; tidy = sim .tidy; line = line }
 
   -- What an order on line a leaves goes with a flat memory that moved at line a alone.
   sim-after : (t′ : Model) → Leaves s t t′ a → (g : Flat) → length (g .words) ≡ s .lines → length (g .marks) ≡ s .lines
@@ -68,8 +68,7 @@ module _ (s : Shape) (t : Model) (f : Flat) (sim : Sim s t f) (a : ℕ) (line : 
       → (Is (not (markIn g a)) → Unowned (s .ports) (seen s t′ a))
       → Sim s t′ g
   sim-after t′ left g lw lm ew em here unowned = record {
-    range = sim .range;
-    sized = left .sized;
+    lent = relent (sim .lent) (left .sized);
     tidy = left .tidy;
     flat-words = lw;
     flat-marks = lm;
@@ -83,7 +82,7 @@ module _ (s : Shape) (t : Model) (f : Flat) (sim : Sim s t f) (a : ℕ) (line : 
   -- Refusal 8 is not given.
   column : Is (columnSound s t a)
   unfolding columnSound
-  column = all-below (λ p. sound s t (entryOf s a p)) (s .ports) (λ p h. sim .tidy .entry (entryOf s a p) (entry-lt s (some-sets s (sim .range)) a p h))
+  column = all-below (λ p. sound s t (entryOf s a p)) (s .ports) (λ p h. sim .tidy .entry (entryOf s a p) (entry-lt s (some-sets s (sim .lent .range)) a p h))
 
   module _ (i : ℕ) (port : i < s .ports) where
     -- A read, a write or a swap.
@@ -226,5 +225,4 @@ module _ (s : Shape) (t : Model) (f : Flat) (sim : Sim s t f) where
 
 pub step-goes : (s : Shape) (t : Model) (f : Flat) → Sim s t f → (o : Order) → Goes s (step s o t) (flatStep s o f)
 unfolding step flatStep
-step-goes s t f sim o =
-    rw (facts-lent s t (record { range = sim .range; sizes = sim .sized })) (perform-goes s t f sim (decode s o) (decode-sound s o))
+step-goes s t f sim o = rw (facts-lent s t (sim .lent)) (perform-goes s t f sim (decode s o) (decode-sound s o))

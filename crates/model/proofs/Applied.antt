@@ -13,8 +13,8 @@ use Rattle.protocol.specs.State.{valid, owner}
 use Rattle.protocol.specs.Rules.{snooped, updates}
 use Rattle.words.proofs.Bools.{Is, and-l, and-r, both, mp, not-both}
 use Rattle.protocol.proofs.States.{owner-valid, not-valid}
-use Rattle.model.specs.declared.shape.Shape.{Shape}
-use Rattle.model.specs.Shape.{indexOf, tagOf, entryOf}
+use Rattle.shape.specs.declared.Shape.{Shape}
+use Rattle.shape.specs.Shape.{indexOf, tagOf, entryOf}
 use Rattle.model.specs.Tables.{Model, stateAt, seen, wordAt, memoryAt, holds, owns}
 use Rattle.model.specs.Step.{store, byteAnswered, wordAnswered, victim, evictsOwner, byteAfter, wordAfter, applied}
 use Rattle.protocol.proofs.Kept.{snooped-I, snooped-valid}

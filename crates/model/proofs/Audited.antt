@@ -11,8 +11,8 @@ use Rattle.protocol.specs.declared.state.State.{State}
 use Rattle.protocol.specs.State.{valid, exclusive, isO, modeOf, sameMode}
 use Rattle.words.proofs.Bools.{Is, and-l, and-r, both, mp, imp, not-both, not-is, by-cond}
 use Rattle.protocol.proofs.States.{exclusive-valid, O-valid, same-mode, mode-itself}
-use Rattle.model.specs.declared.shape.Shape.{Shape}
-use Rattle.model.specs.Shape.{entries}
+use Rattle.shape.specs.declared.Shape.{Shape}
+use Rattle.shape.specs.Shape.{entries}
 use Rattle.model.specs.Below.{allBelow}
 use Rattle.model.specs.Tables.{Model, lentRefusal, sound, seen, wordAt, memoryAt, holds, owns, dirty}
 use Rattle.model.specs.Audit.{entriesSound, everyTwo, bothHold, equalWords, equalModes, exclusiveAlone, oneO, cleanEqual, linePasses}

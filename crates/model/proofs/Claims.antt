@@ -13,13 +13,13 @@ use Rattle.words.specs.declared.access.Access.{Access}
 use Rattle.words.specs.Access.{effectAt}
 use Rattle.protocol.specs.Rules.{flushRule}
 use Rattle.words.proofs.Bools.{Is, by-bool, by-cond}
-use Rattle.model.specs.declared.shape.Shape.{Shape}
+use Rattle.shape.specs.declared.Shape.{Shape}
 use Rattle.model.specs.declared.order.Call.{Call}
 use Rattle.model.specs.declared.order.Call.the-variants.{ByPort, Flush, DeviceRead, DeviceWrite}
 use Rattle.model.specs.declared.order.Decoded.{Decoded}
 use Rattle.model.specs.declared.order.Decoded.the-variants.{Asked, Refused}
 use Rattle.model.specs.Order.{Order, kinds, kindOf, checked, decode, looks}
-use Rattle.model.specs.Shape.{inRange, fits, refusalOf}
+use Rattle.shape.specs.Shape.{inRange, fits, refusalOf}
 use Rattle.model.specs.Tables.{Model, lentRefusal, columnSound, seen, holds, dirty}
 use Rattle.model.specs.Step.{Result, refuse, wordFound, fetches, evictsOwner, accessRule, accessed, flushed, deviceWritten}
 use Rattle.model.specs.Step.{called, perform, step}

@@ -4,7 +4,7 @@ use Rattle.protocol.specs.State.{code, stateOf}
 use Rattle.words.specs.Word.{merge, mergeLow}
 use Rattle.words.specs.Access.{effectAt}
 use Rattle.protocol.specs.Rules.{rule, flushRule, snooped, updates}
-use Rattle.model.specs.Shape.{inRange, fits, refusalOf}
+use Rattle.shape.specs.Shape.{inRange, fits, refusalOf}
 use Rattle.model.specs.Order.{decode, checked, callOf}
 use Rattle.model.specs.Below.{allBelow, anyBelow, orElse, lowest, atOr}
 use Rattle.model.specs.Tables.{lentRefusal, sound, seen, wordAt, dirty, columnSound}

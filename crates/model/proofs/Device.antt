@@ -19,7 +19,7 @@ use Rattle.words.specs.Word.{merge}
 use Rattle.words.specs.Access.{effectAt, writes, isWrite}
 use Rattle.words.proofs.Bools.{Is, and-l, and-r, and-none}
 use Rattle.words.proofs.Effects.{write-effect, unwritten}
-use Rattle.model.specs.declared.shape.Shape.{Shape}
+use Rattle.shape.specs.declared.Shape.{Shape}
 use Rattle.model.specs.declared.order.Call.the-variants.{ByPort, Flush, DeviceRead, DeviceWrite}
 use Rattle.model.specs.declared.order.Decoded.{Decoded}
 use Rattle.model.specs.declared.order.Decoded.the-variants.{Asked, Refused}
@@ -71,7 +71,7 @@ unfolding step perform called
 device-guarantee s t accepted os a clear o asks =
     let sim = run-sim s os (fresh s t) (flatStart (t .memory)) (fresh-sim s t accepted) in
     let there : a < s .lines = (rw asks at (decode-sound s o)) .1 in
-    rw (facts-lent s (modelRun s os (fresh s t)) (record { range = sim .range; sizes = sim .sized }), asks, memory-has s t accepted os a there clear)
+    rw (facts-lent s (modelRun s os (fresh s t)) (sim .lent), asks, memory-has s t accepted os a there clear)
 
 -- Under mark 0 a read, by a port or by a device, is accepted and answers the flat word, and its value is compared.
 read-value : (f : Flat) (a : ℕ) (d : Decoded) → isReadOf a d ≡ true → markIn f a ≡ false

@@ -16,8 +16,8 @@ use Rattle.protocol.specs.declared.state.State.{State}
 use Rattle.protocol.specs.declared.state.State.the-variants.{I}
 use Rattle.protocol.specs.State.{valid}
 use Rattle.words.proofs.Bools.{Is}
-use Rattle.model.specs.declared.shape.Shape.{Shape}
-use Rattle.model.specs.Shape.{entries, indexOf, tagOf, entryOf}
+use Rattle.shape.specs.declared.Shape.{Shape}
+use Rattle.shape.specs.Shape.{entries, indexOf, tagOf, entryOf}
 use Rattle.model.specs.Tables.{Model, stateAt, homeAt, seen, holds}
 use Rattle.model.specs.Step.{putBelow}
 

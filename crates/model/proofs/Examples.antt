@@ -1,6 +1,6 @@
 -- The fourteen orders, the device writes and the stores that leave the word as it was, by computation. Assumes nothing.
 use mathlib.Core.Path.{refl}
-use Rattle.model.specs.Fourteen.{table, twoPorts, start, played, FourteenHold}
+use Rattle.model.specs.Fourteen.{table, twoPorts, start, playedOn, FourteenHold}
 use Rattle.model.specs.DeviceWrites.{written, twoOwners, ownersWritten, ownersLeft, noState, noStateRefused, noHome, noHomeRefused}
 use Rattle.model.specs.DeviceWrites.{DeviceWritesHold}
 use Rattle.model.specs.Flat.{flatAccess, flatPerform, flatStep, flatStart}
@@ -9,13 +9,13 @@ use Rattle.model.specs.SameStores.{exclusives, others, stored, twoExclus
 use Rattle.model.proofs.Computing.{computing}
 
 pub fourteen-hold : FourteenHold
-unfolding computing table twoPorts start played
+unfolding computing table twoPorts start playedOn
 fourteen-hold = refl
 
 pub device-writes-hold : DeviceWritesHold
-unfolding computing twoPorts start played written twoOwners ownersWritten ownersLeft noState noStateRefused noHome noHomeRefused
+unfolding computing twoPorts start playedOn written twoOwners ownersWritten ownersLeft noState noStateRefused noHome noHomeRefused
 device-writes-hold = (refl, refl, refl, refl, refl)
 
 pub same-stores-hold : SameStoresHold
-unfolding computing twoPorts start played exclusives others stored twoExclusives beside marking flatAccess flatPerform flatStep flatStart flatRun modelRun
+unfolding computing twoPorts start playedOn exclusives others stored twoExclusives beside marking flatAccess flatPerform flatStep flatStart flatRun modelRun
 same-stores-hold = (refl, refl, refl, refl, refl, refl)

@@ -1,14 +1,13 @@
 -- Tables that fresh, the step and the audit accept: refusals 2 and 3 against plain facts. Assumes nothing.
-use Prim.Native.Nat.{ℕ, zero, suc, _<_}
 use mathlib.Core.Path.{_≡_}
-use mathlib.Core.Bool.{Bool, cond, _&&_, false≢true}
+use mathlib.Core.Bool.{Bool, cond, _&&_}
 use native.Mathlib.Omega.{arith}
 use lib.ListN.{length}
 use lib.Dec.{eqb}
 use borrow.Author.Tests.{eq-eqb, eqb-true}
 use Rattle.words.proofs.Bools.{Is, and-l, and-r, both, by-cond}
-use Rattle.model.specs.declared.shape.Shape.{Shape}
-use Rattle.model.specs.Shape.{within, isSets, inRange, fits, refusalOf, entries}
+use Rattle.shape.specs.declared.Shape.{Shape}
+use Rattle.shape.specs.Shape.{inRange, fits, refusalOf, entries}
 use Rattle.model.specs.Tables.{Model, lentRefusal}
 use Rattle.model.proofs.Entries.{Sized}
 
@@ -16,6 +15,10 @@ use Rattle.model.proofs.Entries.{Sized}
 pub record Lent (s : Shape) (t : Model) : Type 0 where
   pub range : Is (inRange s)
   pub sizes : Sized s t
+
+-- No order changes a length.
+pub relent : {s : Shape} {t t′ : Model} → Lent s t → Sized s t′ → Lent s t′
+relent l z = record { range = l .range; sizes = z }
 
 abbrev lengthsFit : Shape → Model → Bool
 lengthsFit s t = fits s (length (t .memory)) (length (t .tags)) (length (t .states)) (length (t .words))
@@ -49,11 +52,3 @@ lent-facts s t =
 pub facts-lent : (s : Shape) (t : Model) → Lent s t → lentRefusal s t ≡ 0
 unfolding lentRefusal refusalOf
 facts-lent s t l = rw (l .range, facts-sized s t (l .sizes))
-
-no-sets : (n : ℕ) → Is (isSets n) → zero < n
-no-sets zero h = absurd (false≢true h)
-no-sets (suc n) h = omega arith
-
-pub some-sets : (s : Shape) → Is (inRange s) → zero < s .sets
-unfolding inRange
-some-sets s h = no-sets (s .sets) (and-r (within 1 8 (s .ports)) (isSets (s .sets)) (and-l _ (within 1 4096 (s .lines)) h))

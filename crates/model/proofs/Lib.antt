@@ -7,7 +7,6 @@ pub mod Touched
 pub mod Applied
 pub mod Written
 pub mod Lent
-pub mod Bounds
 pub mod Audited
 pub mod Decoded
 pub mod Moved

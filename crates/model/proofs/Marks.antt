@@ -19,7 +19,7 @@ use Rattle.words.specs.Word.{half}
 use Rattle.words.specs.Access.{effectAt, writes, isWrite}
 use Rattle.words.proofs.Bools.{Is, by-bool}
 use Rattle.words.proofs.Effects.{read-effect, write-effect, swap-succeeds, swap-fails, write-writes}
-use Rattle.model.specs.declared.shape.Shape.{Shape}
+use Rattle.shape.specs.declared.Shape.{Shape}
 use Rattle.model.specs.declared.order.Call.the-variants.{ByPort, Flush, DeviceRead, DeviceWrite}
 use Rattle.model.specs.declared.order.Decoded.{Decoded}
 use Rattle.model.specs.declared.order.Decoded.the-variants.{Asked, Refused}

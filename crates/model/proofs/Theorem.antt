@@ -9,8 +9,8 @@ use Rattle.protocol.specs.declared.state.State.{State}
 use Rattle.protocol.specs.declared.state.State.the-variants.{I}
 use Rattle.protocol.specs.State.{stateOf}
 use Rattle.words.proofs.Bools.{Is, contra}
-use Rattle.model.specs.declared.shape.Shape.{Shape}
-use Rattle.model.specs.Shape.{entries, tagOf, entryOf}
+use Rattle.shape.specs.declared.Shape.{Shape}
+use Rattle.shape.specs.Shape.{entries, tagOf, entryOf}
 use Rattle.model.specs.Order.{Order}
 use Rattle.model.specs.Tables.{Model, lentRefusal, sound, seen, owns, dirty}
 use Rattle.model.specs.Step.{step}
@@ -19,14 +19,13 @@ use Rattle.model.specs.Audit.{audit}
 use Rattle.model.specs.Flat.{Flat, wordIn, flatStep, flatStart}
 use Rattle.model.specs.Agreement.{AgreesOver, Agreement, Fits, AuditedAgreement}
 use Rattle.model.proofs.Below.{any-below}
-use Rattle.model.proofs.Lent.{Lent, lent-facts, facts-lent}
+use Rattle.model.proofs.Lent.{Lent, lent-facts, facts-lent, relent}
 use Rattle.model.proofs.Audited.{audit-facts, facts-audit, facts-tidy, facts-good, good-facts}
 use Rattle.model.proofs.Agree.{Sim, step-goes}
 
 -- Tables that go with a flat memory pass the audit.
 sim-audit : (s : Shape) (t : Model) (f : Flat) → Sim s t f → Is (audit s t)
-sim-audit s t f sim =
-    facts-audit s t (good-facts s t (wordIn f) (facts-lent s t (record { range = sim .range; sizes = sim .sized })) (sim .tidy) (sim .good))
+sim-audit s t f sim = facts-audit s t (good-facts s t (wordIn f) (facts-lent s t (sim .lent)) (sim .tidy) (sim .good))
 
 -- And they agree over every list of orders.
 sim-agrees : (s : Shape) (os : List Order) (t : Model) (f : Flat) → Sim s t f → AgreesOver s os t f
@@ -41,10 +40,8 @@ audited-sim : (s : Shape) (t : Model) (f : Flat) → Is (audit s t) → Fits s t
 unfolding dirty
 audited-sim s t f passes fits =
     let facts = audit-facts s t passes in
-    let lent = lent-facts s t (facts .accepted) in
     record {
-      range = lent .range;
-      sized = lent .sizes;
+      lent = lent-facts s t (facts .accepted);
       tidy = facts-tidy s t facts;
       flat-words = fits .words-length;
       flat-marks = fits .marks-length;
@@ -72,14 +69,12 @@ zeroed-seen s t a p = rw (zeros (entries s) (entryOf s a p)) (either-same (eqb 0
 zeroed-sim : (s : Shape) (t : Model) → Lent s t → Sim s (zeroed s t) (flatStart (t .memory))
 unfolding zeroed flatStart sound stateOf
 zeroed-sim s t lent = record {
-  range = lent .range;
-  sized = record {
+  lent = relent lent (record {
     memory = lent .sizes .memory;
     tags = length-replicate (entries s) 0;
     states = length-replicate (entries s) 0;
-    words =
-        length-replicate (entries s) 0;
-  };
+    words = length-replicate (entries s) 0;
+  });
   tidy = record { entry = λ k h. rw (zeros (entries s) k) refl };
   flat-words = lent .sizes .memory;
   flat-marks = length-replicate (length (t .memory)) false ∙ lent .sizes .memory;

@@ -12,8 +12,8 @@ use Rattle.protocol.specs.declared.state.State.the-variants.{I}
 use Rattle.protocol.specs.State.{code, stateOf, isState, valid}
 use Rattle.words.proofs.Bools.{Is, or-r, both, by-bool}
 use Rattle.protocol.proofs.States.{owner-valid, not-valid, stateOf-code}
-use Rattle.model.specs.declared.shape.Shape.{Shape}
-use Rattle.model.specs.Shape.{entries, indexOf, tagOf, entryOf}
+use Rattle.shape.specs.declared.Shape.{Shape}
+use Rattle.shape.specs.Shape.{entries, indexOf, tagOf, entryOf}
 use Rattle.model.specs.Tables.{Model, stateAt, homeAt, sound, seen, wordAt, memoryAt, holds, owns}
 use Rattle.model.proofs.Line.{Good, Unowned, gone-good}
 use Rattle.model.proofs.Entries.{Sized, entry-index, seen-tag, seen-here, seen-away, seen-cong, tags-differ, same-entry, same-at, holds-one}

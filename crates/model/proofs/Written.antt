@@ -11,8 +11,8 @@ use Rattle.protocol.specs.declared.rules.Bus.the-variants.{Invalidate}
 use Rattle.protocol.specs.Rules.{snooped}
 use Rattle.protocol.proofs.States.{not-valid}
 use Rattle.protocol.proofs.Kept.{snooped-I}
-use Rattle.model.specs.declared.shape.Shape.{Shape}
-use Rattle.model.specs.Shape.{entryOf}
+use Rattle.shape.specs.declared.Shape.{Shape}
+use Rattle.shape.specs.Shape.{entryOf}
 use Rattle.model.specs.Tables.{Model, seen, memoryAt}
 use Rattle.model.specs.Step.{wordSupplied, byteAnswered, deviceWritten}
 use Rattle.model.proofs.Line.{Unowned, free-good}

@@ -5,8 +5,8 @@ use mathlib.Core.Bool.{Bool, true, false, cond, _&&_, not}
 use lib.Dec.{eqb}
 use Rattle.words.specs.Bools.{implies}
 use Rattle.protocol.specs.State.{isO, exclusive, modeOf, sameMode}
-use Rattle.model.specs.declared.shape.Shape.{Shape}
-use Rattle.model.specs.Shape.{entries}
+use Rattle.shape.specs.declared.Shape.{Shape}
+use Rattle.shape.specs.Shape.{entries}
 use Rattle.model.specs.Below.{allBelow}
 use Rattle.model.specs.Tables.{Model, lentRefusal, sound, seen, wordAt, memoryAt, holds, owns, dirty}
 

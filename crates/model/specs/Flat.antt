@@ -11,7 +11,7 @@ use Rattle.words.specs.declared.access.Access.{Access}
 use Rattle.words.specs.declared.access.Access.the-variants.{Read, Write, Swap}
 use Rattle.protocol.specs.State.{isBack}
 use Rattle.words.specs.Word.{merge, half}
-use Rattle.model.specs.declared.shape.Shape.{Shape}
+use Rattle.shape.specs.declared.Shape.{Shape}
 use Rattle.model.specs.declared.order.Call.the-variants.{ByPort, Flush, DeviceRead, DeviceWrite}
 use Rattle.model.specs.declared.order.Decoded.{Decoded}
 use Rattle.model.specs.declared.order.Decoded.the-variants.{Asked, Refused}

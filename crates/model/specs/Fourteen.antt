@@ -8,7 +8,7 @@ use Rattle.protocol.specs.declared.state.Mode.{Mode}
 use Rattle.protocol.specs.declared.state.Mode.the-variants.{Through, Back}
 use Rattle.protocol.specs.State.{code}
 use Rattle.protocol.specs.Coded.{modeNumber}
-use Rattle.model.specs.declared.shape.Shape.{Shape}
+use Rattle.shape.specs.declared.Shape.{Shape}
 use Rattle.model.specs.declared.answer.Answer.{Answer}
 use Rattle.model.specs.Order.{Order, bits}
 use Rattle.model.specs.Tables.{Model, model, seen, memoryAt}
@@ -77,13 +77,16 @@ unfoldable pub start : Model
 start = fresh twoPorts (model (5 ∷ 7 ∷ []) (1 ∷ 1 ∷ []) (1 ∷ 1 ∷ []) (1 ∷ 1 ∷ []))
 
 -- The table that the step gives for the orders of a table.
-unfoldable pub played : List Row → Model → List Row
-played [] t = []
-played (r ∷ rs) t =
-    let x = step twoPorts (r .order) t in
+unfoldable pub playedOn : Shape → List Row → Model → List Row
+playedOn s [] t = []
+playedOn s (r ∷ rs) t =
+    let x = step s (r .order) t in
     let u = x .after in
     let a = bits (r .order .word) 16 16 in
-    row (r .order) (x .answer) (code (seen twoPorts u a 0)) (code (seen twoPorts u a 1)) (memoryAt u 0) (memoryAt u 1) ∷ played rs u
+    row (r .order) (x .answer) (code (seen s u a 0)) (code (seen s u a 1)) (memoryAt u 0) (memoryAt u 1) ∷ playedOn s rs u
+
+abbrev pub played : List Row → Model → List Row
+played rs t = playedOn twoPorts rs t
 
 abbrev pub FourteenHold : Type 0
 FourteenHold = played table start ≡ table

@@ -2,8 +2,8 @@
 use mathlib.Core.Bool.{cond}
 use lib.ListN.{replicate}
 use lib.Dec.{eqb}
-use Rattle.model.specs.declared.shape.Shape.{Shape}
-use Rattle.model.specs.Shape.{entries}
+use Rattle.shape.specs.declared.Shape.{Shape}
+use Rattle.shape.specs.Shape.{entries}
 use Rattle.model.specs.Tables.{Model, model, lentRefusal}
 
 -- Zeros in all three tables; memory stays as lent.

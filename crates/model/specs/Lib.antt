@@ -1,5 +1,4 @@
--- The definitions, from the shape up to the histories, and the statements of the theorems over them.
-pub mod Shape
+-- The definitions, from an order up to the histories, and the statements of the theorems over them.
 pub mod Order
 pub mod Below
 pub mod Tables

@@ -11,7 +11,7 @@ use Rattle.protocol.specs.declared.state.Mode.the-variants.{Through, Back}
 use Rattle.words.specs.declared.access.Access.the-variants.{Read, Write, Swap}
 use Rattle.words.specs.Word.{merge}
 use Rattle.words.specs.Access.{isWrite}
-use Rattle.model.specs.declared.shape.Shape.{Shape}
+use Rattle.shape.specs.declared.Shape.{Shape}
 use Rattle.model.specs.declared.order.Call.the-variants.{ByPort, Flush, DeviceRead, DeviceWrite}
 use Rattle.model.specs.declared.order.Decoded.{Decoded}
 use Rattle.model.specs.declared.order.Decoded.the-variants.{Asked, Refused}

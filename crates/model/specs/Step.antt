@@ -15,13 +15,13 @@ use Rattle.words.specs.Word.{merge}
 use Rattle.words.specs.Access.{effectAt}
 use Rattle.protocol.specs.Rules.{rule, flushRule, snooped, updates}
 use Rattle.words.specs.Bools.{bit}
-use Rattle.model.specs.declared.shape.Shape.{Shape}
+use Rattle.shape.specs.declared.Shape.{Shape}
 use Rattle.model.specs.declared.order.Call.{Call}
 use Rattle.model.specs.declared.order.Call.the-variants.{ByPort, Flush, DeviceRead, DeviceWrite}
 use Rattle.model.specs.declared.order.Decoded.{Decoded}
 use Rattle.model.specs.declared.order.Decoded.the-variants.{Asked, Refused}
 use Rattle.model.specs.declared.answer.Answer.{Answer}
-use Rattle.model.specs.Shape.{tagOf, entryOf}
+use Rattle.shape.specs.Shape.{tagOf, entryOf}
 use Rattle.model.specs.Order.{Order, looks, decode}
 use Rattle.model.specs.Below.{anyBelow, lowest, atOr}
 use Rattle.model.specs.Tables.{Model, lentRefusal, stateAt, homeAt, seen, wordAt, memoryAt, holds, owns, dirty, columnSound}

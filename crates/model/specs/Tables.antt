@@ -8,8 +8,8 @@ use lib.Dec.{eqb, ltb}
 use Rattle.protocol.specs.declared.state.State.{State}
 use Rattle.protocol.specs.declared.state.State.the-variants.{I}
 use Rattle.protocol.specs.State.{stateOf, orInvalid, isState, valid, owner}
-use Rattle.model.specs.declared.shape.Shape.{Shape}
-use Rattle.model.specs.Shape.{refusalOf, tagOf, entryOf}
+use Rattle.shape.specs.declared.Shape.{Shape}
+use Rattle.shape.specs.Shape.{refusalOf, tagOf, entryOf}
 use Rattle.model.specs.Below.{allBelow, anyBelow}
 
 -- Main memory, and the tables of tags, states and data (here: words).

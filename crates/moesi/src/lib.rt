@@ -3,7 +3,7 @@
 // All that is asked of the caller is that the slices have the lengths that it says and share no byte with one another.
 use counters::lent;
 use letters::Way;
-use model::shape::Shape;
+use shape::Shape;
 ghost use mathlib.Core.Path.{_≡_};
 ghost use mathlib.Core.List.{[]};
 ghost use Rattle.words.specs.Bools.{bit};

@@ -3,7 +3,7 @@
 // stands.
 // What it prints is kept in the file stdout.
 use model::found::Found;
-use model::shape::Shape;
+use shape::Shape;
 
 fn put(n: u64) {
     io::print_decimal(1, n);

@@ -5,8 +5,8 @@ use mathlib.Core.List.{List}
 use native.Mathlib.Omega.{arith}
 use lib.ListN.{length}
 use Rattle.endian.proofs.Little.{get-numbers, length-numbers}
-use Rattle.model.specs.declared.shape.Shape.{Shape}
-use Rattle.model.specs.Shape.{entries}
+use Rattle.shape.specs.declared.Shape.{Shape}
+use Rattle.shape.specs.Shape.{entries}
 use Rattle.model.specs.Tables.{model, lentRefusal, memoryAt}
 use Rattle.model.proofs.Lent.{facts-lent}
 use Rattle.ports.specs.Bytes.{Bytes, modelIn, Filled, Fitting}

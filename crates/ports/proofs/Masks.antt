@@ -14,7 +14,7 @@ use Rattle.words.specs.Bools.{bit}
 use Rattle.words.proofs.Bools.{Is, by-bool, not-both}
 use Rattle.model.specs.Below.{anyBelow, none, number, orElse, lowest, atOr}
 use Rattle.model.proofs.Below.{any-below, below-none, lowest-cases}
-use Rattle.model.specs.declared.shape.Shape.{Shape}
+use Rattle.shape.specs.declared.Shape.{Shape}
 use Rattle.model.specs.Tables.{Model, holds}
 use Rattle.ports.specs.Masks.{portsFrom, inMask, OfHolders}
 

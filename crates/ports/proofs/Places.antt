@@ -10,12 +10,11 @@ use lib.ListN.{getD, set}
 use lib.Seq.{sets}
 use Rattle.endian.specs.Little.{numbers, bytesOf}
 use Rattle.endian.proofs.Little.{get-numbers, set-numbers}
-use Rattle.model.specs.declared.shape.Shape.{Shape}
-use Rattle.model.specs.declared.shape.Place.{Place}
-use Rattle.model.specs.Shape.{inRange, entries, indexOf, tagOf, entryOf, tagLimit, placeOf}
-use Rattle.model.proofs.Bounds.{bounded, limit-is}
+use Rattle.shape.specs.declared.Shape.{Shape}
+use Rattle.shape.specs.declared.Place.{Place}
+use Rattle.shape.specs.Shape.{inRange, entries, indexOf, tagOf, entryOf, tagLimit, placeOf}
+use Rattle.shape.proofs.Bounds.{bounded, limit-is, some-sets}
 use Rattle.model.proofs.Entries.{entry-lt}
-use Rattle.model.proofs.Lent.{some-sets}
 use Rattle.ports.specs.declared.line.Line.{Line}
 use Rattle.ports.specs.declared.entry.Entry.{Entry}
 use Rattle.ports.specs.Bytes.{tablesIn, Filled}

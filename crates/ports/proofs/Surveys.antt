@@ -21,11 +21,11 @@ use Rattle.words.proofs.Bools.{Is, and-l, both, or-r, by-bool, not-is, not-both
 use Rattle.model.specs.Below.{allBelow, anyBelow}
 use Rattle.model.proofs.Below.{below-all}
 use Rattle.endian.specs.Little.{numbers}
-use Rattle.model.specs.declared.shape.Shape.{Shape}
-use Rattle.model.specs.declared.shape.Place.{Place}
-use Rattle.model.specs.Shape.{entries, indexOf, entryOf}
+use Rattle.shape.specs.declared.Shape.{Shape}
+use Rattle.shape.specs.declared.Place.{Place}
+use Rattle.shape.specs.Shape.{entries, indexOf, entryOf}
 use Rattle.model.specs.Tables.{Model, homeAt, sound, seen, holds, owns, dirty, columnSound}
-use Rattle.model.proofs.Bounds.{limit-is}
+use Rattle.shape.proofs.Bounds.{limit-is}
 use Rattle.model.proofs.Entries.{entry-index, seen-tag, seen-here}
 use Rattle.ports.specs.declared.line.Line.{Line}
 use Rattle.ports.specs.declared.survey.Masks.{Masks}

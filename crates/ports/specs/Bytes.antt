@@ -5,8 +5,8 @@ use mathlib.Core.Bool.{true}
 use mathlib.Core.List.{List, []}
 use lib.ListN.{length}
 use Rattle.endian.specs.Little.{numbers}
-use Rattle.model.specs.declared.shape.Shape.{Shape}
-use Rattle.model.specs.Shape.{inRange, entries}
+use Rattle.shape.specs.declared.Shape.{Shape}
+use Rattle.shape.specs.Shape.{inRange, entries}
 use Rattle.model.specs.Tables.{Model, model}
 
 pub record Bytes : Type 0 where

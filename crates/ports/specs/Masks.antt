@@ -8,9 +8,9 @@ use lib.Dec.{eqb, ltb}
 use Rattle.words.specs.Bools.{bit}
 use Rattle.protocol.specs.declared.state.State.the-variants.{I}
 use Rattle.protocol.specs.State.{stateOf, orInvalid, isState, valid, owner}
-use Rattle.model.specs.declared.shape.Shape.{Shape}
-use Rattle.model.specs.declared.shape.Place.{Place}
-use Rattle.model.specs.Shape.{entryOf}
+use Rattle.shape.specs.declared.Shape.{Shape}
+use Rattle.shape.specs.declared.Place.{Place}
+use Rattle.shape.specs.Shape.{entryOf}
 use Rattle.model.specs.Tables.{Model, holds, owns, columnSound}
 use Rattle.ports.specs.declared.survey.Masks.{Masks}
 use Rattle.ports.specs.declared.survey.Look.{Look}

@@ -1,11 +1,11 @@
 // One entry of the tables in bytes.
-use model::shape::Shape;
+use shape::Shape;
 ghost use mathlib.Core.Path.{_≡_};
 ghost use Prim.Native.Nat.{_+_, _*_, _<_, _≤_};
 ghost use lib.ListN.{length};
 ghost use lib.Seq.{sets};
 ghost use Rattle.endian.specs.Little.{bytesOf};
-ghost use Rattle.model.specs.Shape.{entries};
+ghost use Rattle.shape.specs.Shape.{entries};
 ghost use Rattle.ports.specs.Bytes.{tablesIn, Filled};
 ghost use Rattle.ports.specs.Entry.{tagIn, wordIn, entryAt, putAt};
 

@@ -1,10 +1,10 @@
 // A line of a shape, and where the ports' entries for it are.
-use model::shape::Place;
-use model::shape::Shape;
+use shape::Place;
+use shape::Shape;
 ghost use mathlib.Core.Path.{_≡_};
 ghost use mathlib.Core.Bool.{true};
 ghost use Prim.Native.Nat.{_<_};
-ghost use Rattle.model.specs.Shape.{inRange};
+ghost use Rattle.shape.specs.Shape.{inRange};
 ghost use Rattle.ports.specs.Line.{lineOf};
 
 // Line `number` of the shape. Port p's entry for it has the number p * sets + index, and holds the line where it isn't I and has the

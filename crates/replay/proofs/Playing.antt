@@ -7,14 +7,14 @@ use mathlib.Core.List.{List, _∷_}
 use native.Mathlib.Omega.{arith}
 use lib.ListN.{length, take, drop, replicate}
 use borrow.Author.Tests.{eq-eqb, ne-eqb}
-use Rattle.model.specs.declared.shape.Shape.{Shape}
-use Rattle.model.specs.Shape.{entries, inRange}
+use Rattle.shape.specs.declared.Shape.{Shape}
+use Rattle.shape.specs.Shape.{entries, inRange}
 use Rattle.model.specs.Tables.{Model}
 use Rattle.model.specs.Fresh.{zeroed}
 use Rattle.model.specs.Audit.{audit}
 use Rattle.endian.specs.Little.{number, numbers}
 use Rattle.ports.specs.Bytes.{Bytes, bytes, modelIn, Fitting}
-use Rattle.model.proofs.Bounds.{bounded}
+use Rattle.shape.proofs.Bounds.{bounded}
 use Rattle.replay.specs.declared.Played.{Played}
 use Rattle.model.specs.Marks.{modelRun}
 use Rattle.replay.specs.Trace.{shapeIn, ordersIn, traceRefusal, ordersOf, traceOrders, answersTo, placed, start, refused, played, answersOf}

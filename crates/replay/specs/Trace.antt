@@ -5,9 +5,9 @@ use mathlib.Core.List.{List, [], _∷_, _++_}
 use lib.ListN.{length, drop, replicate}
 use lib.Dec.{eqb, ltb}
 use Rattle.endian.specs.Little.{number}
-use Rattle.model.specs.declared.shape.Shape.{Shape}
+use Rattle.shape.specs.declared.Shape.{Shape}
 use Rattle.model.specs.declared.answer.Answer.{Answer}
-use Rattle.model.specs.Shape.{inRange}
+use Rattle.shape.specs.Shape.{inRange}
 use Rattle.model.specs.Order.{Order}
 use Rattle.model.specs.Tables.{Model, model}
 use Rattle.model.specs.Step.{step}

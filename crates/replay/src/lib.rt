@@ -1,12 +1,12 @@
 // A trace: four sizes, then all order words, then all operands, in one buffer of bytes. Its orders run on memory of zeros.
 use model::answer::Answer;
-use model::shape::Shape;
+use shape::Shape;
 ghost use mathlib.Core.Path.{_≡_};
 ghost use mathlib.Core.Bool.{true};
 ghost use Prim.Native.Nat.{_+_, _*_, _<_, _≤_, _^_};
 ghost use lib.ListN.{length};
 ghost use lib.Seq.{sets};
-ghost use Rattle.model.specs.Shape.{inRange};
+ghost use Rattle.shape.specs.Shape.{inRange};
 ghost use Rattle.model.specs.Audit.{audit};
 ghost use Rattle.model.specs.Marks.{modelRun};
 ghost use Rattle.ports.specs.Bytes.{bytes, modelIn, Fitting};

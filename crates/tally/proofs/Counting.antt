@@ -11,7 +11,7 @@ use Rattle.endian.specs.Little.{number, numbers}
 use Rattle.decode.specs.Order.{order}
 use Rattle.ports.specs.Bytes.{Bytes, modelIn, Fitting}
 use Rattle.ports.proofs.Bytes.{refitted}
-use Rattle.model.specs.declared.shape.Shape.{Shape}
+use Rattle.shape.specs.declared.Shape.{Shape}
 use Rattle.model.specs.declared.answer.Answer.{Answer}
 use Rattle.model.specs.Order.{Order, kindOf}
 use Rattle.model.specs.Tables.{Model}

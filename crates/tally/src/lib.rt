@@ -1,11 +1,11 @@
 // The totals of a trace: its orders run from fresh on memory of zeros, and each is counted in a record; and rows of totals, added.
 use counters::lent;
-use model::shape::Shape;
+use shape::Shape;
 ghost use mathlib.Core.Path.{_≡_};
 ghost use mathlib.Core.Bool.{true};
 ghost use Prim.Native.Nat.{ℕ, _+_, _*_, _≤_};
 ghost use lib.ListN.{getD, length};
-ghost use Rattle.model.specs.Shape.{inRange};
+ghost use Rattle.shape.specs.Shape.{inRange};
 ghost use Rattle.decode.specs.Order.{order};
 ghost use Rattle.ports.specs.Bytes.{bytes, modelIn, Fitting};
 ghost use Rattle.replay.specs.Trace.{traceRefusal, ordersOf, traceOrders, start};

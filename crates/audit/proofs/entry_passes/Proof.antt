@@ -3,7 +3,7 @@ use borrow.Author.Needs.{needs}
 use lib.Arith.{digits-lt}
 use mathlib.Core.Path.{sym}
 use native.Mathlib.Omega.{arith}
-use Rattle.model.proofs.Bounds.{bounded}
+use Rattle.shape.proofs.Bounds.{bounded}
 use Rattle.ports.specs.Bytes.{modelIn, tablesIn}
 use Rattle.ports.proofs.Bytes.{memory-word}
 use Rattle.audit.specs.Entries.{heldAt, belowPass}

@@ -3,7 +3,7 @@ use Prim.Native.Nat.{_-_, _+_, _*_}
 use lib.Arith.{digits-lt}
 use native.Mathlib.Omega.{arith}
 use Rattle.endian.specs.Little.{numbers}
-use Rattle.model.specs.Shape.{entries}
+use Rattle.shape.specs.Shape.{entries}
 use Rattle.audit.specs.Entries.{ownsAt, ownedAt}
 use Rattle.model.proofs.Loops.{Seeking, seeking-none, seeking-found, seeking-more, seeking-done}
 use Rattle.audit.proofs.owned_at.Statement.{statement}

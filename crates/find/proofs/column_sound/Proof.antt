@@ -2,7 +2,7 @@
 use borrow.Author.Needs.{needs}
 use Prim.Native.Nat.{_-_}
 use mathlib.Core.List.{[]}
-use Rattle.model.specs.Shape.{entryOf}
+use Rattle.shape.specs.Shape.{entryOf}
 use Rattle.model.specs.Tables.{model, sound, columnSound}
 use Rattle.model.proofs.Loops.{Passing, passing-none, passing-fails, passing-more, passing-done}
 use Rattle.find.proofs.column_sound.Statement.{statement}

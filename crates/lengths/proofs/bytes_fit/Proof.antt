@@ -1,7 +1,7 @@
 -- `bytes_fit` is `bytesFit`. Assumes nothing.
 use borrow.Author.Needs.{needs}
 use native.Mathlib.Omega.{arith}
-use Rattle.model.proofs.Bounds.{bounded}
+use Rattle.shape.proofs.Bounds.{bounded}
 use Rattle.lengths.specs.Lengths.{bytesFit}
 use Rattle.lengths.proofs.bytes_fit.Statement.{statement}
 use Rattle.lengths.proofs.bytes_fit.Tie as tie

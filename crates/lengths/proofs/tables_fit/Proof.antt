@@ -1,7 +1,7 @@
 -- `tables_fit` is `tablesFit`. Assumes nothing.
 use borrow.Author.Needs.{needs}
 use native.Mathlib.Omega.{arith}
-use Rattle.model.proofs.Bounds.{bounded}
+use Rattle.shape.proofs.Bounds.{bounded}
 use Rattle.lengths.specs.Lengths.{tablesFit}
 use Rattle.lengths.proofs.tables_fit.Statement.{statement}
 use Rattle.lengths.proofs.tables_fit.Tie as tie

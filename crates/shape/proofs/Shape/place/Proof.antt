@@ -1,10 +1,10 @@
 -- `place` is `placeOf`: tag and limit fit 32 bits. Assumes nothing.
 use borrow.Author.Needs.{needs}
 use native.Mathlib.Omega.{arith}
-use Rattle.model.specs.Shape.{placeOf}
-use Rattle.model.proofs.Bounds.{tag-small, limit-small}
-use Rattle.model.proofs.shape.Shape.place.Statement.{statement}
-use Rattle.model.proofs.shape.Shape.place.Tie as tie
+use Rattle.shape.specs.Shape.{placeOf}
+use Rattle.shape.proofs.Bounds.{tag-small, limit-small}
+use Rattle.shape.proofs.Shape.place.Statement.{statement}
+use Rattle.shape.proofs.Shape.place.Tie as tie
 
 cast-t4 : tie.Need-cast-t4
 cast-t4 c =

@@ -2,9 +2,9 @@
 use borrow.Author.Needs.{needs}
 use mathlib.Core.Path.{sym}
 use native.Mathlib.Omega.{arith}
-use Rattle.model.proofs.Bounds.{bounded, sets-last}
-use Rattle.model.proofs.shape.Shape.shift.Statement.{statement}
-use Rattle.model.proofs.shape.Shape.shift.Tie as tie
+use Rattle.shape.proofs.Bounds.{bounded, sets-last}
+use Rattle.shape.proofs.Shape.shift.Statement.{statement}
+use Rattle.shape.proofs.Shape.shift.Tie as tie
 
 returns-7 : tie.Need-returns-7
 returns-7 c =

@@ -3,10 +3,9 @@ use borrow.Author.Needs.{needs}
 use Prim.Native.Nat.{_-_}
 use native.Mathlib.Omega.{arith}
 use lib.Bits.{and-le-l}
-use Rattle.model.proofs.Lent.{some-sets}
-use Rattle.model.proofs.Bounds.{bounded, bits-below}
-use Rattle.model.proofs.shape.Shape.split.Statement.{statement}
-use Rattle.model.proofs.shape.Shape.split.Tie as tie
+use Rattle.shape.proofs.Bounds.{bounded, bits-below, some-sets}
+use Rattle.shape.proofs.Shape.split.Statement.{statement}
+use Rattle.shape.proofs.Shape.split.Tie as tie
 
 sub-most : tie.Need-sub-most
 sub-most c = let start : tie.Start = search in some-sets (start .args .self) (start .pre .0)

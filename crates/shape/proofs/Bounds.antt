@@ -1,7 +1,7 @@
 -- What a shape in range bounds, the limit of tags at an index, and the index as the bits below the sets. Assumes nothing.
 use Prim.Native.Nat.{ℕ, zero, suc, _+_, _*_, _-_, _/_, _%_, _^_, _<_, _≤_}
 use mathlib.Core.Path.{_≡_, refl, sym, _∙_, subst}
-use mathlib.Core.Bool.{Bool, true, false, _&&_, _||_}
+use mathlib.Core.Bool.{Bool, true, false, _&&_, _||_, false≢true}
 use mathlib.Core.Logic.{_≢_, _↔_}
 use native.Mathlib.Omega.{arith}
 use native.Mathlib.Nat.{mul-le-mul, div-le-self, div-lt-iff-lt-mul}
@@ -10,8 +10,8 @@ use lib.Dec.{eqb, leb, ltb}
 use lib.Bits.{bitAnd, and-mask}
 use borrow.Author.Tests.{ne-eqb, eqb-true, leb-true, lt-ltb, le-ltb}
 use Rattle.words.proofs.Bools.{Is, and-l, and-r}
-use Rattle.model.specs.declared.shape.Shape.{Shape}
-use Rattle.model.specs.Shape.{within, isSets, inRange, entries}
+use Rattle.shape.specs.declared.Shape.{Shape}
+use Rattle.shape.specs.Shape.{within, isSets, inRange, entries}
 
 or-cases : {P : Type 0} (a b : Bool) → Is (a || b) → (Is a → P) → (Is b → P) → P
 or-cases true b h f g = f refl
@@ -106,3 +106,12 @@ limit-is t n i x h =
 -- The bits of a number below n, where n is 2 ^ k.
 pub bits-below : (a n k : ℕ) → 2 ^ k ≡ n → bitAnd a (n - 1) ≡ a % n
 bits-below a n k e = subst (λ (m : ℕ). bitAnd a (m - 1) ≡ a % m) e (and-mask a k)
+
+-- There is a set.
+no-sets : (n : ℕ) → Is (isSets n) → zero < n
+no-sets zero h = absurd (false≢true h)
+no-sets (suc n) h = omega arith
+
+pub some-sets : (s : Shape) → Is (inRange s) → zero < s .sets
+unfolding inRange
+some-sets s h = no-sets (s .sets) (and-r (within 1 8 (s .ports)) (isSets (s .sets)) (and-l _ (within 1 4096 (s .lines)) h))

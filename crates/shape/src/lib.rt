@@ -1,8 +1,8 @@
-// The shape of a model, with the sizes and limits that follow from it.
+// The shape of a model, with the limits, sizes and places that follow from it, and the refusals of what is lent.
 ghost use mathlib.Core.Path.{_≡_};
 ghost use mathlib.Core.Bool.{true};
 ghost use Prim.Native.Nat.{_<_, _≤_, _+_, _-_, _/_, _%_, _^_};
-ghost use Rattle.model.specs.Shape.{isSets, inRange, entries, fits, refusalOf, placeOf};
+ghost use Rattle.shape.specs.Shape.{isSets, inRange, entries, fits, refusalOf, placeOf};
 
 // How many ports there are, how many sets each port's direct-mapped cache has, and how many lines main memory has. (Document 01's word
 // shape.)

@@ -1,7 +1,7 @@
 -- `has_sets` is `isSets`, arm by arm. Assumes nothing.
 use borrow.Author.Tests.{ne-eqb}
-use Rattle.model.proofs.shape.Shape.has_sets.Statement.{statement}
-use Rattle.model.proofs.shape.Shape.has_sets.Tie as tie
+use Rattle.shape.proofs.Shape.has_sets.Statement.{statement}
+use Rattle.shape.proofs.Shape.has_sets.Tie as tie
 
 returns : tie.Need-returns
 returns c = rw (c .match .keys1)

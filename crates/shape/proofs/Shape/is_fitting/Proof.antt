@@ -1,8 +1,8 @@
 -- `is_fitting` is `fits`. Assumes nothing.
 use borrow.Author.Needs.{needs}
-use Rattle.model.specs.Shape.{fits}
-use Rattle.model.proofs.shape.Shape.is_fitting.Statement.{statement}
-use Rattle.model.proofs.shape.Shape.is_fitting.Tie as tie
+use Rattle.shape.specs.Shape.{fits}
+use Rattle.shape.proofs.Shape.is_fitting.Statement.{statement}
+use Rattle.shape.proofs.Shape.is_fitting.Tie as tie
 
 returns : tie.Need-returns
 unfolding fits

@@ -1,9 +1,9 @@
 -- `refusal` is `refusalOf`, by its two tests. Assumes nothing.
 use borrow.Author.Needs.{needs}
 use mathlib.Core.Path.{sym, _∙_}
-use Rattle.model.specs.Shape.{refusalOf}
-use Rattle.model.proofs.shape.Shape.refusal.Statement.{statement}
-use Rattle.model.proofs.shape.Shape.refusal.Tie as tie
+use Rattle.shape.specs.Shape.{refusalOf}
+use Rattle.shape.proofs.Shape.refusal.Statement.{statement}
+use Rattle.shape.proofs.Shape.refusal.Tie as tie
 
 is-fitting-requires : tie.Need-is-fitting-requires
 is-fitting-requires c κs = sym (c .before .is-in-range .ensures) ∙ c .if1 .taken

@@ -1,8 +1,8 @@
 -- `is_in_range` is `inRange`. Assumes nothing.
 use borrow.Author.Needs.{needs}
-use Rattle.model.specs.Shape.{inRange}
-use Rattle.model.proofs.shape.Shape.is_in_range.Statement.{statement}
-use Rattle.model.proofs.shape.Shape.is_in_range.Tie as tie
+use Rattle.shape.specs.Shape.{inRange}
+use Rattle.shape.proofs.Shape.is_in_range.Statement.{statement}
+use Rattle.shape.proofs.Shape.is_in_range.Tie as tie
 
 returns : tie.Need-returns
 unfolding inRange

@@ -1,0 +1,2 @@
+-- Laws of the shape that proofs above cite.
+pub mod Bounds

@@ -1,0 +1,2 @@
+-- The shape: its limits, sizes and places.
+pub mod Shape
