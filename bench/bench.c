@@ -1,5 +1,5 @@
-/* Times the library and three models in C on the same orders, in turn, in one process; then the step with a record, and
-   the conversions of old tables. */
+/* Times the library and three models in C on the same orders, in turn, in one process; then the step with a record, the
+   step under ranges, and the conversions of old tables. */
 
 #define _POSIX_C_SOURCE 200809L
 
@@ -19,8 +19,8 @@ enum { ORDERS = 65536, ALIGNMENT = 64, MOST_BYTES = 8 * SECOND_MAX_LINES };
 
 enum subject { LIBRARY, PLAIN, WALKING, SECOND, SUBJECTS };
 
-/* The byte models come before the second model. In the table of totals each is timed by its step and, BYTE_MODELS
-   further on, by its step with a record. */
+/* The byte models come before the second model. In the tables of totals and of ranges each is timed by its step and,
+   BYTE_MODELS further on, by its step with a record or under ranges. */
 enum { BYTE_MODELS = SECOND, STEPS = 2 * BYTE_MODELS };
 
 /* The library and plain C convert, each with tables of its own; the old set is where the walking model's tables are. */
@@ -46,14 +46,17 @@ struct bench {
     volatile uint64_t sink;
 };
 
-typedef uint64_t fresh_call(uint64_t, uint64_t, uint64_t, const uint8_t *, size_t, uint8_t *, size_t, uint8_t *, size_t,
+typedef uint64_t fresh_call(uint64_t, uint64_t, uint64_t, uint64_t, uint64_t, uint64_t, uint64_t, const uint8_t *,
+                            size_t, uint8_t *, size_t, uint8_t *, size_t, uint8_t *, size_t);
+typedef uint64_t step_call(uint64_t, uint64_t, uint64_t, uint64_t, uint64_t, uint64_t, uint64_t, uint64_t, uint64_t,
+                           uint8_t *, size_t, uint8_t *, size_t, uint8_t *, size_t, uint8_t *, size_t, uint8_t *,
+                           size_t);
+typedef uint64_t totals_call(uint64_t, uint64_t, uint64_t, uint64_t, uint64_t, uint64_t, uint64_t, uint64_t, uint64_t,
+                             uint8_t *, size_t, uint8_t *, size_t, uint8_t *, size_t, uint8_t *, size_t, uint8_t *,
+                             size_t, uint8_t *, size_t);
+typedef uint64_t audit_call(uint64_t, uint64_t, uint64_t, uint64_t, uint64_t, uint64_t, uint64_t, const uint8_t *,
+                            size_t, const uint8_t *, size_t, const uint8_t *, size_t, const uint8_t *, size_t,
                             uint8_t *, size_t);
-typedef uint64_t step_call(uint64_t, uint64_t, uint64_t, uint64_t, uint64_t, uint8_t *, size_t, uint8_t *, size_t,
-                           uint8_t *, size_t, uint8_t *, size_t, uint8_t *, size_t);
-typedef uint64_t totals_call(uint64_t, uint64_t, uint64_t, uint64_t, uint64_t, uint8_t *, size_t, uint8_t *, size_t,
-                             uint8_t *, size_t, uint8_t *, size_t, uint8_t *, size_t, uint8_t *, size_t);
-typedef uint64_t audit_call(uint64_t, uint64_t, uint64_t, const uint8_t *, size_t, const uint8_t *, size_t,
-                            const uint8_t *, size_t, const uint8_t *, size_t, uint8_t *, size_t);
 typedef uint64_t convert_call(uint64_t, uint64_t, uint64_t, const uint8_t *, size_t, const uint8_t *, size_t,
                               const uint8_t *, size_t, uint8_t *, size_t, uint8_t *, size_t, uint8_t *, size_t);
 
@@ -70,6 +73,7 @@ typedef void round_call(struct bench *, int);
 
 static void fresh_round(struct bench *bench, int subject)
 {
+    struct second_shape s = bench->shape;
     struct second_lengths n = bench->lengths;
     struct bytes *b = &bench->bytes[subject == SECOND ? 0 : subject];
     uint64_t sum = 0;
@@ -77,13 +81,15 @@ static void fresh_round(struct bench *bench, int subject)
     for (size_t k = 0; k < bench->count && subject == SECOND; k++)
         second_fresh(&bench->second);
     for (size_t k = 0; k < bench->count && subject != SECOND; k++)
-        sum += fresh_calls[subject](bench->shape.ports, bench->shape.sets, bench->shape.lines, b->memory, n.memory,
-                                    b->tags, n.tags, b->states, n.states, b->data, n.data);
+        sum += fresh_calls[subject](s.ports, s.sets, s.lines, s.scratch.first, s.scratch.count, s.device.first,
+                                    s.device.count, b->memory, n.memory, b->tags, n.tags, b->states, n.states, b->data,
+                                    n.data);
     bench->sink += sum;
 }
 
 static void step_round(struct bench *bench, int subject)
 {
+    struct second_shape s = bench->shape;
     struct second_lengths n = bench->lengths;
     struct bytes *b = &bench->bytes[subject == SECOND ? 0 : subject];
     uint64_t sum = 0;
@@ -91,24 +97,26 @@ static void step_round(struct bench *bench, int subject)
     for (size_t k = 0; k < bench->count && subject == SECOND; k++)
         sum += second_step(&bench->second, bench->words[k], bench->operands[k]).value;
     for (size_t k = 0; k < bench->count && subject != SECOND; k++)
-        sum += step_calls[subject](bench->shape.ports, bench->shape.sets, bench->shape.lines, bench->words[k],
-                                   bench->operands[k], b->memory, n.memory, b->tags, n.tags, b->states, n.states,
-                                   b->data, n.data, b->answer, sizeof b->answer);
+        sum += step_calls[subject](s.ports, s.sets, s.lines, s.scratch.first, s.scratch.count, s.device.first,
+                                   s.device.count, bench->words[k], bench->operands[k], b->memory, n.memory, b->tags,
+                                   n.tags, b->states, n.states, b->data, n.data, b->answer, sizeof b->answer);
     bench->sink += sum;
 }
 
 /* The record starts from zeros. */
 static void totals_round(struct bench *bench, int model)
 {
+    struct second_shape s = bench->shape;
     struct second_lengths n = bench->lengths;
     struct bytes *b = &bench->bytes[model];
     uint64_t sum = 0;
 
     memset(b->record, 0, sizeof b->record);
     for (size_t k = 0; k < bench->count; k++)
-        sum += totals_calls[model](bench->shape.ports, bench->shape.sets, bench->shape.lines, bench->words[k],
-                                   bench->operands[k], b->memory, n.memory, b->tags, n.tags, b->states, n.states,
-                                   b->data, n.data, b->answer, sizeof b->answer, b->record, sizeof b->record);
+        sum += totals_calls[model](s.ports, s.sets, s.lines, s.scratch.first, s.scratch.count, s.device.first,
+                                   s.device.count, bench->words[k], bench->operands[k], b->memory, n.memory, b->tags,
+                                   n.tags, b->states, n.states, b->data, n.data, b->answer, sizeof b->answer, b->record,
+                                   sizeof b->record);
     bench->sink += sum;
 }
 
@@ -121,8 +129,21 @@ static void either_round(struct bench *bench, int which)
         totals_round(bench, which - BYTE_MODELS);
 }
 
+/* The step of a byte model, without ranges or under them, on the same memory and tables. */
+static void ranged_round(struct bench *bench, int which)
+{
+    static const struct second_range empty = {0, 0};
+    struct second_shape shape = bench->shape;
+
+    if (which < BYTE_MODELS)
+        bench->shape.scratch = bench->shape.device = empty;
+    step_round(bench, which % BYTE_MODELS);
+    bench->shape = shape;
+}
+
 static void audit_round(struct bench *bench, int subject)
 {
+    struct second_shape s = bench->shape;
     struct second_lengths n = bench->lengths;
     struct bytes *b = &bench->bytes[subject == SECOND ? 0 : subject];
     uint64_t sum = 0;
@@ -130,9 +151,9 @@ static void audit_round(struct bench *bench, int subject)
     for (size_t k = 0; k < bench->count && subject == SECOND; k++)
         sum += (uint64_t)second_audit(&bench->second);
     for (size_t k = 0; k < bench->count && subject != SECOND; k++)
-        sum += audit_calls[subject](bench->shape.ports, bench->shape.sets, bench->shape.lines, b->memory, n.memory,
-                                    b->tags, n.tags, b->states, n.states, b->data, n.data, b->verdict,
-                                    sizeof b->verdict);
+        sum += audit_calls[subject](s.ports, s.sets, s.lines, s.scratch.first, s.scratch.count, s.device.first,
+                                    s.device.count, b->memory, n.memory, b->tags, n.tags, b->states, n.states, b->data,
+                                    n.data, b->verdict, sizeof b->verdict);
     bench->sink += sum;
 }
 
@@ -209,6 +230,7 @@ static void print_row(const struct bench *bench, const char *what, const double 
            best[LIBRARY] / best[SECOND]);
 }
 
+/* A row of the table of totals or of ranges. */
 static void print_totals_row(const struct bench *bench, const char *what, const double best[STEPS])
 {
     const double *with = best + BYTE_MODELS;
@@ -472,7 +494,7 @@ static int time_shape(struct bench *bench, struct second_shape shape, struct byt
 /* The same orders, lines below 64, at 64 and at 4,096 lines: a step's cost does not grow with lines. */
 static void time_growth(struct bench *bench)
 {
-    static const struct second_shape shapes[2] = {{8, 64, 64}, {8, 64, 4096}};
+    static const struct second_shape shapes[2] = {{8, 64, 64, {0, 0}, {0, 0}}, {8, 64, 4096, {0, 0}, {0, 0}}};
     double best[2][SUBJECTS];
 
     for (int k = 0; k < 2; k++) {
@@ -486,7 +508,10 @@ static void time_growth(struct bench *bench)
            best[1][LIBRARY] / best[0][LIBRARY], best[1][WALKING] / best[0][WALKING]);
 }
 
-static const struct second_shape shapes[5] = {{1, 1, 1}, {2, 1, 2}, {4, 16, 1024}, {8, 64, 64}, {8, 64, 4096}};
+static const struct second_shape shapes[5] = {
+    {1, 1, 1, {0, 0}, {0, 0}},   {2, 1, 2, {0, 0}, {0, 0}},     {4, 16, 1024, {0, 0}, {0, 0}},
+    {8, 64, 64, {0, 0}, {0, 0}}, {8, 64, 4096, {0, 0}, {0, 0}},
+};
 
 static int print_models(struct bench *bench, struct bytes *scratch)
 {
@@ -534,6 +559,58 @@ static int print_totals(struct bench *bench)
     printf("The last three columns are times over times: of a step with a record of totals over a step without, by\n"
            "the same model. The six take turns on the orders of the table above, a model's two on the same tables.\n"
            "A record starts from zeros in each round.\n");
+    return agree;
+}
+
+/* The table of ranges: the step under both ranges against the step without. */
+
+/* A third of the lines is scratch, half of them is in the device range, and where there are many the two cross. */
+static struct second_shape with_ranges(struct second_shape shape)
+{
+    shape.scratch.first = 0;
+    shape.scratch.count = shape.lines / 3 + 1;
+    shape.device.first = shape.lines / 4;
+    shape.device.count = shape.lines / 2;
+    return shape;
+}
+
+/* Whether all have come to the same memory and tables after a round from fresh under the ranges. */
+static int ranged_agree(struct bench *bench, struct bytes *scratch)
+{
+    start(bench, bench->shape);
+    for (int s = 0; s < SUBJECTS; s++)
+        step_round(bench, s);
+    return states_agree(bench, scratch);
+}
+
+static int time_ranges(struct bench *bench, struct second_shape shape, struct bytes *scratch)
+{
+    struct generator generator = generator_of(shape);
+    double best[STEPS];
+    int agree = 1;
+
+    for (int traffic = 0; traffic < TRAFFICS; traffic++) {
+        make_traffic(bench, &generator, with_ranges(shape), traffic);
+        time_orders(bench, ranged_round, STEPS, best);
+        print_totals_row(bench, traffic_names[traffic], best);
+        agree &= ranged_agree(bench, scratch);
+    }
+    if (!agree)
+        printf("the models differ after the orders under ranges at this shape\n");
+    return agree;
+}
+
+static int print_ranges(struct bench *bench, struct bytes *scratch)
+{
+    int agree = 1;
+
+    printf("\n%-10s %-19s %11s %11s %10s %9s %10s\n", "shape", "calls per second of", "library", "with ranges",
+           "of library", "of plain", "of walking");
+    for (int k = 0; k < 5; k++)
+        agree &= time_ranges(bench, shapes[k], scratch);
+    printf("The last three columns are times over times: of a step under a scratch range and a device range over a\n"
+           "step under empty ones, by the same model. The six take turns on the orders of the first table, a model's\n"
+           "two on the same tables. In the ranges other modes are in force, so that the two don't do the same work.\n");
     return agree;
 }
 
@@ -598,6 +675,7 @@ int main(int argc, char **argv)
         bench.bytes[k] = all[k];
     agree = print_models(&bench, &all[BYTE_MODELS]);
     agree &= print_totals(&bench);
+    agree &= print_ranges(&bench, &all[BYTE_MODELS]);
     agree &= print_conversions(&bench);
     for (int k = 0; k <= BYTE_MODELS; k++) {
         free(all[k].memory);

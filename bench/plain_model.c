@@ -71,6 +71,31 @@ static uint64_t refusal_of(uint64_t ports, uint64_t sets, uint64_t lines, size_t
     return 0;
 }
 
+/* Whether a range that has lines ends beyond the last line of memory; the sum could wrap, so that it is not made. */
+static int ends_beyond(uint64_t first, uint64_t count, uint64_t lines)
+{
+    return count > 0 && (count > lines || first > lines - count);
+}
+
+static uint64_t refusal_of_ranges(uint64_t lines, uint64_t scratch_first, uint64_t scratch_count,
+                                  uint64_t device_first, uint64_t device_count)
+{
+    if (ends_beyond(scratch_first, scratch_count, lines) || ends_beyond(device_first, device_count, lines))
+        return 12;
+    return 0;
+}
+
+/* The mode that an access to a line runs in. A range that is not refused ends within lines, so that its sum is right. */
+static uint64_t mode_at(uint64_t line, uint64_t mode, uint64_t scratch_first, uint64_t scratch_count,
+                        uint64_t device_first, uint64_t device_count)
+{
+    if (scratch_count > 0 && line >= scratch_first && line < scratch_first + scratch_count)
+        return 1;
+    if (device_count > 0 && line >= device_first && line < device_first + device_count)
+        return 0;
+    return mode;
+}
+
 /* The lent slices and the line that an order is about. */
 struct tables {
     uint8_t *memory, *tags, *states, *data;
@@ -322,6 +347,8 @@ static uint64_t answer_with(uint8_t *answer, uint64_t refusal, const struct orde
 }
 
 uint64_t plain_step(uint64_t ports, uint64_t sets, uint64_t lines,
+                    uint64_t scratch_first, uint64_t scratch_count,
+                    uint64_t device_first, uint64_t device_count,
                     uint64_t word, uint64_t operand,
                     uint8_t *memory, size_t memory_len,
                     uint8_t *tags, size_t tags_len,
@@ -335,8 +362,11 @@ uint64_t plain_step(uint64_t ports, uint64_t sets, uint64_t lines,
 
     if (answer_len != 40)
         return refusal == 2 ? 2 : 3;
+    if (!refusal)
+        refusal = refusal_of_ranges(lines, scratch_first, scratch_count, device_first, device_count);
     if (refusal)
         return answer_with(answer, refusal, &o);
+    o.mode = mode_at(t.line, o.mode, scratch_first, scratch_count, device_first, device_count);
     t.index = t.line % sets;
     t.tag = t.line / sets;
     return answer_with(answer, perform(&t, &o), &o);
@@ -365,6 +395,8 @@ static uint64_t refuse(uint8_t *answer, size_t answer_len, uint64_t refusal)
 
 /* The record has the accepted orders of kinds 0 to 5, at 6 the refused ones, then memory reads, writes and swaps. */
 uint64_t plain_step_totals(uint64_t ports, uint64_t sets, uint64_t lines,
+                           uint64_t scratch_first, uint64_t scratch_count,
+                           uint64_t device_first, uint64_t device_count,
                            uint64_t word, uint64_t operand,
                            uint8_t *memory, size_t memory_len,
                            uint8_t *tags, size_t tags_len,
@@ -381,8 +413,8 @@ uint64_t plain_step_totals(uint64_t ports, uint64_t sets, uint64_t lines,
     }
     if (is_full(record))
         return refuse(answer, answer_len, 9);
-    refusal = plain_step(ports, sets, lines, word, operand, memory, memory_len, tags, tags_len, states, states_len,
-                         data, data_len, answer, answer_len);
+    refusal = plain_step(ports, sets, lines, scratch_first, scratch_count, device_first, device_count, word, operand,
+                         memory, memory_len, tags, tags_len, states, states_len, data, data_len, answer, answer_len);
     add(record, refusal ? 6 : word & 7, 1);
     if (refusal)
         return refusal;
@@ -393,6 +425,8 @@ uint64_t plain_step_totals(uint64_t ports, uint64_t sets, uint64_t lines,
 }
 
 uint64_t plain_fresh(uint64_t ports, uint64_t sets, uint64_t lines,
+                     uint64_t scratch_first, uint64_t scratch_count,
+                     uint64_t device_first, uint64_t device_count,
                      const uint8_t *memory, size_t memory_len,
                      uint8_t *tags, size_t tags_len,
                      uint8_t *states, size_t states_len,
@@ -401,6 +435,8 @@ uint64_t plain_fresh(uint64_t ports, uint64_t sets, uint64_t lines,
     uint64_t refusal = refusal_of(ports, sets, lines, memory_len, tags_len, states_len, data_len);
 
     (void)memory;
+    if (!refusal)
+        refusal = refusal_of_ranges(lines, scratch_first, scratch_count, device_first, device_count);
     if (refusal)
         return refusal;
     memset(tags, 0, tags_len);
@@ -439,6 +475,8 @@ static int entry_passes(const struct tables *t, uint64_t p)
 }
 
 uint64_t plain_audit(uint64_t ports, uint64_t sets, uint64_t lines,
+                     uint64_t scratch_first, uint64_t scratch_count,
+                     uint64_t device_first, uint64_t device_count,
                      const uint8_t *memory, size_t memory_len,
                      const uint8_t *tags, size_t tags_len,
                      const uint8_t *states, size_t states_len,
@@ -451,6 +489,8 @@ uint64_t plain_audit(uint64_t ports, uint64_t sets, uint64_t lines,
 
     if (verdict_len != 1)
         return refusal == 2 ? 2 : 3;
+    if (!refusal)
+        refusal = refusal_of_ranges(lines, scratch_first, scratch_count, device_first, device_count);
     verdict[0] = 0;
     if (refusal)
         return refusal;

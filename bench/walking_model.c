@@ -128,10 +128,24 @@ static inline uint64_t check_slices(uint64_t ports, uint64_t sets, uint64_t line
     return 0;
 }
 
+/* Whether a range that is not empty ends beyond lines. The sum, which may have 65 bits, is not made. */
+static inline int ends_beyond(uint64_t first, uint64_t count, uint64_t lines)
+{
+    return count > 0 && (first > lines || count > lines - first);
+}
+
+/* Refusal 12 of the two ranges. */
+static inline uint64_t check_ranges(uint64_t lines, uint64_t scratch_first, uint64_t scratch_count,
+                                    uint64_t device_first, uint64_t device_count)
+{
+    return ends_beyond(scratch_first, scratch_count, lines) || ends_beyond(device_first, device_count, lines) ? 12 : 0;
+}
+
 /* One call of step: the lent slices, the order taken apart, and what the walk over the ports found. */
 struct walk {
     uint8_t *memory, *tags, *states, *data;
     uint64_t ports, sets, lines;
+    uint64_t scratch_first, scratch_count, device_first, device_count;
     uint64_t operand;
     unsigned kind, mode, port, mask, line;
     uint32_t compare;
@@ -187,6 +201,21 @@ static inline uint64_t take_apart(struct walk *w, uint64_t word)
     if (w->kind == SWAP && w->mask != 0x0F && w->mask != 0xF0)
         return 7;
     return 0;
+}
+
+/* Whether a range has the line. Below its first line the difference wraps, and is above every count that is let in. */
+static inline unsigned has_line(uint64_t first, uint64_t count, unsigned line)
+{
+    return line - first < count;
+}
+
+/* The mode in force, without a jump: write back in scratch, else write through in the device range, else as ordered. */
+static inline unsigned mode_in_force(const struct walk *w)
+{
+    unsigned scratch = has_line(w->scratch_first, w->scratch_count, w->line);
+    unsigned device = has_line(w->device_first, w->device_count, w->line);
+
+    return scratch | (w->mode & !device);
 }
 
 /* The one pass over the ports: refusal 8, who holds the line, who owns it. */
@@ -371,6 +400,7 @@ static inline void carry_out(struct walk *w)
 {
     size_t entry = entry_of(w, w->port);
 
+    w->mode = mode_in_force(w);
     if (w->kind == DEVICE_WRITE)
         device_write(w);
     else if (w->kind == FLUSH)
@@ -382,6 +412,8 @@ static inline void carry_out(struct walk *w)
 }
 
 uint64_t walking_step(uint64_t ports, uint64_t sets, uint64_t lines,
+                      uint64_t scratch_first, uint64_t scratch_count,
+                      uint64_t device_first, uint64_t device_count,
                       uint64_t word, uint64_t operand,
                       uint8_t *memory, size_t memory_len,
                       uint8_t *tags, size_t tags_len,
@@ -396,6 +428,8 @@ uint64_t walking_step(uint64_t ports, uint64_t sets, uint64_t lines,
         return refusal ? refusal : 3;
     if (refusal)
         return refuse(answer, refusal);
+    if ((refusal = check_ranges(lines, scratch_first, scratch_count, device_first, device_count)))
+        return refuse(answer, refusal);
     w.memory = memory;
     w.tags = tags;
     w.states = states;
@@ -403,6 +437,10 @@ uint64_t walking_step(uint64_t ports, uint64_t sets, uint64_t lines,
     w.ports = ports;
     w.sets = sets;
     w.lines = lines;
+    w.scratch_first = scratch_first;
+    w.scratch_count = scratch_count;
+    w.device_first = device_first;
+    w.device_count = device_count;
     w.operand = operand;
     w.value = w.swapped = w.reads = w.writes = 0;
     if ((refusal = take_apart(&w, word)))
@@ -442,6 +480,8 @@ static inline void add_to(uint8_t *record, size_t place, uint64_t more)
 }
 
 uint64_t walking_step_totals(uint64_t ports, uint64_t sets, uint64_t lines,
+                             uint64_t scratch_first, uint64_t scratch_count,
+                             uint64_t device_first, uint64_t device_count,
                              uint64_t word, uint64_t operand,
                              uint8_t *memory, size_t memory_len,
                              uint8_t *tags, size_t tags_len,
@@ -459,8 +499,8 @@ uint64_t walking_step_totals(uint64_t ports, uint64_t sets, uint64_t lines,
     }
     if (is_full(record))
         return answer_len == ANSWER_BYTES ? refuse(answer, 9) : 9;
-    refusal = walking_step(ports, sets, lines, word, operand, memory, memory_len, tags, tags_len, states, states_len,
-                           data, data_len, answer, answer_len);
+    refusal = walking_step(ports, sets, lines, scratch_first, scratch_count, device_first, device_count, word, operand,
+                           memory, memory_len, tags, tags_len, states, states_len, data, data_len, answer, answer_len);
     if (refusal) {
         add_to(record, REFUSED, 1);
         return refusal;
@@ -473,6 +513,8 @@ uint64_t walking_step_totals(uint64_t ports, uint64_t sets, uint64_t lines,
 }
 
 uint64_t walking_fresh(uint64_t ports, uint64_t sets, uint64_t lines,
+                       uint64_t scratch_first, uint64_t scratch_count,
+                       uint64_t device_first, uint64_t device_count,
                        const uint8_t *memory, size_t memory_len,
                        uint8_t *tags, size_t tags_len,
                        uint8_t *states, size_t states_len,
@@ -481,6 +523,8 @@ uint64_t walking_fresh(uint64_t ports, uint64_t sets, uint64_t lines,
     uint64_t refusal = check_slices(ports, sets, lines, memory_len, tags_len, states_len, data_len);
 
     (void)memory;
+    if (!refusal)
+        refusal = check_ranges(lines, scratch_first, scratch_count, device_first, device_count);
     if (refusal)
         return refusal;
     memset(tags, 0, tags_len);
@@ -546,6 +590,8 @@ static int is_coherent(uint64_t ports, uint64_t sets, uint64_t lines, const uint
 }
 
 uint64_t walking_audit(uint64_t ports, uint64_t sets, uint64_t lines,
+                       uint64_t scratch_first, uint64_t scratch_count,
+                       uint64_t device_first, uint64_t device_count,
                        const uint8_t *memory, size_t memory_len,
                        const uint8_t *tags, size_t tags_len,
                        const uint8_t *states, size_t states_len,
@@ -556,6 +602,8 @@ uint64_t walking_audit(uint64_t ports, uint64_t sets, uint64_t lines,
 
     if (verdict_len != VERDICT_BYTES)
         return refusal ? refusal : 3;
+    if (!refusal)
+        refusal = check_ranges(lines, scratch_first, scratch_count, device_first, device_count);
     *verdict = !refusal && is_coherent(ports, sets, lines, memory, tags, states, data);
     return refusal;
 }

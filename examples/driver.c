@@ -66,13 +66,18 @@ static uint64_t flush_buffer(void)
     return stores;
 }
 
+/* A fresh model: main memory stays as it is, and no port holds a line. */
+static void start(void)
+{
+    if (moesi_model_init(&model, PORTS, SETS, LINES, memory, sizeof memory, room, sizeof room) != MOESI_ACCEPTED)
+        exit(1);
+}
+
 int main(void)
 {
-    int before, after, through, read_through, passes;
+    int before, after, through, read_through, by_range, passes;
 
-    if (moesi_model_init(&model, PORTS, SETS, LINES, memory, sizeof memory, room, sizeof room) != MOESI_ACCEPTED)
-        return 1;
-
+    start();
     printf("port 0 fills lines %d to %d in write back\n", BUFFER, BUFFER + BUFFER_LINES - 1);
     fill(1, MOESI_WRITE_BACK);
     /* Lines 4 to 7 were evicted by lines 8 to 11, and so stored; lines 8 to 11 are only in port 0's cache. */
@@ -92,7 +97,15 @@ int main(void)
         step(moesi_order_read(1, line, MOESI_WRITE_THROUGH), 0);
     read_through = device_reads_right(3);
 
+    /* The mode by address: the driver's orders stay as they are, and need no flush. */
+    printf("the buffer is a device range from the start; port 0 fills it in write back\n");
+    start();
+    if (moesi_model_set_device(&model, BUFFER, BUFFER_LINES) != MOESI_ACCEPTED)
+        return 1;
+    fill(4, MOESI_WRITE_BACK);
+    by_range = device_reads_right(4);
+
     passes = moesi_model_passes(&model);
     printf("audit: %s\n", passes ? "yes" : "no");
-    return !before && after && through && read_through && passes ? 0 : 1;
+    return !before && after && through && read_through && by_range && passes ? 0 : 1;
 }

@@ -23,8 +23,9 @@
  * =========
  *
  * One to eight ports have a direct-mapped cache each over a main memory of
- * 64-bit words, one word per line. A shape is three numbers: ports, sets, lines.
- * The caller owns all the bytes and lends them for the time of a call:
+ * 64-bit words, one word per line. A shape is three numbers, ports, sets and lines,
+ * and two ranges of lines, scratch and device, either of which may be empty (see
+ * below). The caller owns all the bytes and lends them for the time of a call:
  *
  *   memory   lines words of 8 bytes          main memory
  *   tags     ports * sets entries of 4 bytes  the tag of each entry
@@ -56,17 +57,20 @@
  * --------
  *
  * Each call returns 0, or the number of the first of these that applies, in this
- * order. Fresh and the audit give 2 and 3 only, the steps 2 to 8 and
+ * order. Fresh and the audit give 2, 3 and 12 only, the steps 2 to 8 and 12 and
  * moesi_step_totals also 9, moesi_from_old 2, 3 and 10, moesi_to_old 2, 3, 10 and
  * 11; 1 belongs to the programs trace and totals.
  *
  *   9  moesi_step_totals alone, and before every other: the record has its length,
  *      and some total in it is above MOESI_MOST_TOTAL, 2^64 - 3
- *   2  a number of the shape is out of its range (ports 1 to 8; sets 1, 2, 4, 8,
+ *   2  ports, sets or lines is out of its limits (ports 1 to 8; sets 1, 2, 4, 8,
  *      16, 32 or 64; lines 1 to 4,096)
  *   3  a slice hasn't exactly the length that the shape gives, or the answer
  *      isn't 40 bytes, or the verdict isn't 1 byte, or the record isn't
  *      MOESI_RECORD_BYTES
+ *  12  the scratch range or the device range has a count above 0 and ends beyond
+ *      lines: its first line plus its count, as numbers without a limit, is above
+ *      lines. The numbers of a range have no other limits.
  *   4  the kind is 6 or 7
  *   5  the port isn't below ports (not asked of a device read or a device write,
  *      which have no port)
@@ -85,6 +89,35 @@
  * verdict (0), or the record (the refused order is counted, unless the refusal is
  * 9). An answer, a verdict or a record of another length is left alone, and so are
  * the tables that a refused conversion was to write.
+ *
+ * Ranges
+ * ------
+ *
+ * Each access carries a mode, write back or write through, and two ranges of lines
+ * overrule it: on a line in the scratch range every access runs write back, on a
+ * line in the device range write through, whatever the order says; elsewhere the
+ * order's mode stands. A line in both is scratch. A range is its first line and
+ * its count of lines; with a count of 0 it is empty, wherever it starts. Wherever
+ * this page says that an access is in write back or in write through, the mode in
+ * force is meant. A flush, a device read and a device write have no mode, and are
+ * the same in a range and out of it. The conversion of old tables takes no ranges,
+ * and traces carry none.
+ *
+ * What a device range buys: a device always reads a line in it (and outside
+ * scratch) right, with no flush. This is proved of a model that starts fresh, and
+ * whose memory and tables nobody but moesi_step and moesi_step_totals writes. So a
+ * driver puts the buffers that a device reads there, and needs no mode in its
+ * orders and no flush. Scratch is for what no device reads: its lines are stored
+ * when they are evicted or flushed, or a device writes them, and no sooner.
+ *
+ * What this page calls proved is said of a model that keeps its numbers, the
+ * ranges among them, from fresh on. But ranges are numbers of a call like the
+ * others: nothing of them is kept in the tables, and where 12 is not given a fresh
+ * model and the audit's verdict are the same with and without them. So a program
+ * may change them between two orders: ports read right all the same, but a line
+ * that was written in write back before stays as it is when it comes into the
+ * device range, and a device may read it wrong until a port accesses it there (and
+ * not in scratch), a device writes it, or its owner flushes it.
  *
  * What a device sees
  * ------------------
@@ -151,7 +184,7 @@
  * several.
  *
  * Every call with a record of its length is counted, refused ones too, also those
- * with a wrong shape or a wrong slice (2 and 3). Refusal 9 alone is counted
+ * with a wrong shape, slice or range (2, 3 and 12). Refusal 9 alone is counted
  * nowhere: it is given before anything else is looked at where a total has no
  * room for an order more, and it changes neither memory nor tables nor record.
  * For a record from zeros that nobody else writes this is proved: each total is
@@ -175,11 +208,11 @@
  *
  * This is proved: there and back, in either direction, gives the bytes that there
  * were, where the first way is not refused. And a converted set, beside a main
- * memory of its length, passes moesi_audit exactly when the old one, beside the
- * same, keeps the audit's rules read on the five letters: every
- * byte is at most 4 and every home line is below lines; holders of a line have
- * equal words; a line held in E or M has one holder; a line has at most one O; a
- * held line without an owner equals memory.
+ * memory of its length and under any ranges that end within lines, passes
+ * moesi_audit exactly when the old one, beside the same memory, keeps the audit's
+ * rules read on the five letters: every byte is at most 4 and every home line is
+ * below lines; holders of a line have equal words; a line held in E or M has one
+ * holder; a line has at most one O; a held line without an owner equals memory.
  *
  * What this page says of a model that starts fresh is not said of one that starts
  * from converted tables: a line that is O or M in them was written in write back
@@ -260,6 +293,7 @@
 #define MOESI_REFUSED_TRACE 1u
 #define MOESI_REFUSED_SHAPE 2u
 #define MOESI_REFUSED_LENGTH 3u
+#define MOESI_REFUSED_RANGE 12u
 #define MOESI_REFUSED_KIND 4u
 #define MOESI_REFUSED_PORT 5u
 #define MOESI_REFUSED_LINE 6u
@@ -280,6 +314,8 @@ extern "C" {
  * invalid. Memory is only measured, and stays as lent.
  */
 uint64_t moesi_fresh(uint64_t ports, uint64_t sets, uint64_t lines,
+                     uint64_t scratch_first, uint64_t scratch_count,
+                     uint64_t device_first, uint64_t device_count,
                      const uint8_t *memory, size_t memory_len,
                      uint8_t *tags, size_t tags_len,
                      uint8_t *states, size_t states_len,
@@ -292,6 +328,8 @@ uint64_t moesi_fresh(uint64_t ports, uint64_t sets, uint64_t lines,
  * cost does not grow with sets or lines.
  */
 uint64_t moesi_step(uint64_t ports, uint64_t sets, uint64_t lines,
+                    uint64_t scratch_first, uint64_t scratch_count,
+                    uint64_t device_first, uint64_t device_count,
                     uint64_t word, uint64_t operand,
                     uint8_t *memory, size_t memory_len,
                     uint8_t *tags, size_t tags_len,
@@ -307,6 +345,8 @@ uint64_t moesi_step(uint64_t ports, uint64_t sets, uint64_t lines,
  * answer is written.
  */
 uint64_t moesi_step_totals(uint64_t ports, uint64_t sets, uint64_t lines,
+                           uint64_t scratch_first, uint64_t scratch_count,
+                           uint64_t device_first, uint64_t device_count,
                            uint64_t word, uint64_t operand,
                            uint8_t *memory, size_t memory_len,
                            uint8_t *tags, size_t tags_len,
@@ -323,6 +363,8 @@ uint64_t moesi_step_totals(uint64_t ports, uint64_t sets, uint64_t lines,
  * at most one owned copy; a held line without an owner equals memory.
  */
 uint64_t moesi_audit(uint64_t ports, uint64_t sets, uint64_t lines,
+                     uint64_t scratch_first, uint64_t scratch_count,
+                     uint64_t device_first, uint64_t device_count,
                      const uint8_t *memory, size_t memory_len,
                      const uint8_t *tags, size_t tags_len,
                      const uint8_t *states, size_t states_len,
@@ -357,7 +399,7 @@ uint64_t moesi_to_old(uint64_t ports, uint64_t sets, uint64_t lines,
 
 /* Sizes of the slices, in bytes. */
 
-/* 1 if the three numbers are a shape, 0 if a call would answer them with refusal 2. */
+/* 1 if the three numbers are within their limits, 0 if a call would answer them with refusal 2. */
 static inline int moesi_shape_in_range(uint64_t ports, uint64_t sets, uint64_t lines)
 {
     int sets_ok = sets >= 1 && sets <= MOESI_MAX_SETS && (sets & (sets - 1)) == 0;
@@ -395,7 +437,7 @@ static inline struct moesi_sizes moesi_sizes_of(uint64_t ports, uint64_t sets, u
  * field's largest number, which no shape has, so that an order that names it is
  * refused and never lands on another port or line; a kind above 7 becomes 7,
  * which is refused too. Mask and compare value are cut to their fields. Any mode
- * but 0 is write back.
+ * but 0 is write back. In a range the mode is overruled.
  */
 
 static inline uint64_t moesi_order_word(uint64_t kind, uint64_t mode, uint64_t port, uint64_t line,
@@ -564,6 +606,7 @@ static inline struct moesi_totals moesi_read_totals(const uint8_t *record)
  */
 struct moesi_model {
     uint64_t ports, sets, lines;
+    uint64_t scratch_first, scratch_count, device_first, device_count;
     uint8_t *memory, *tags, *states, *data;
     struct moesi_sizes sizes;
 };
@@ -586,11 +629,11 @@ static inline size_t moesi_tables_bytes(uint64_t ports, uint64_t sets, uint64_t 
 
 /*
  * A model over memory and tables as they are: bytes that were saved, or a copy
- * of a model's memory and room to try orders on. How the tables lie in the room
- * is this edition's own, so saved bytes go with the header and the shape that
- * they were cut by; who has the tables apart uses the calls on slices. Tables that
- * nobody vouches for are audited first (moesi_model_passes). Memory and the room
- * share no byte. Returns 0, or
+ * of a model's memory and room to try orders on. Its ranges are empty. How the
+ * tables lie in the room is this edition's own, so saved bytes go with the header
+ * and the shape that they were cut by; who has the tables apart uses the calls on
+ * slices. Tables that nobody vouches for are audited first (moesi_model_passes).
+ * Memory and the room share no byte. Returns 0, or
  *
  *   2  the numbers are no shape
  *   3  memory or the room is NULL, or hasn't exactly its length
@@ -612,6 +655,10 @@ static inline uint64_t moesi_model_open(struct moesi_model *m, uint64_t ports, u
     m->ports = ports;
     m->sets = sets;
     m->lines = lines;
+    m->scratch_first = 0;
+    m->scratch_count = 0;
+    m->device_first = 0;
+    m->device_count = 0;
     m->memory = memory;
     m->data = room;
     m->tags = m->data + sizes.data;
@@ -620,7 +667,10 @@ static inline uint64_t moesi_model_open(struct moesi_model *m, uint64_t ports, u
     return MOESI_ACCEPTED;
 }
 
-/* A fresh model: cuts the room up and clears the tables; memory stays as lent. Returns what moesi_model_open does. */
+/*
+ * A fresh model with empty ranges: cuts the room up and clears the tables; memory
+ * stays as lent. Returns what moesi_model_open does.
+ */
 static inline uint64_t moesi_model_init(struct moesi_model *m, uint64_t ports, uint64_t sets, uint64_t lines,
                                         uint8_t *memory, size_t memory_len, uint8_t *room, size_t room_len)
 {
@@ -628,8 +678,51 @@ static inline uint64_t moesi_model_init(struct moesi_model *m, uint64_t ports, u
 
     if (refusal != MOESI_ACCEPTED)
         return refusal;
-    return moesi_fresh(m->ports, m->sets, m->lines, m->memory, m->sizes.memory, m->tags, m->sizes.tags, m->states,
-                       m->sizes.states, m->data, m->sizes.data);
+    return moesi_fresh(m->ports, m->sets, m->lines, m->scratch_first, m->scratch_count, m->device_first,
+                       m->device_count, m->memory, m->sizes.memory, m->tags, m->sizes.tags, m->states, m->sizes.states,
+                       m->data, m->sizes.data);
+}
+
+/*
+ * The refusal with which moesi_model_step answers every order, whatever it is, and
+ * with which the audit says no: 0 if there is none, 12 if a range ends beyond
+ * lines, 2 if this is no model. (With a record, 9 and a wrong length of the record
+ * come before 12.) Asked of the step with an order of kind 7, which has a refusal
+ * of its own after these, and so changes nothing.
+ */
+static inline uint64_t moesi_model_refusal(const struct moesi_model *m)
+{
+    uint8_t bytes[MOESI_ANSWER_BYTES];
+    uint64_t refusal = moesi_step(m->ports, m->sets, m->lines, m->scratch_first, m->scratch_count, m->device_first,
+                                  m->device_count, 7, 0, m->memory, m->sizes.memory, m->tags, m->sizes.tags,
+                                  m->states, m->sizes.states, m->data, m->sizes.data, bytes, sizeof bytes);
+
+    return refusal == MOESI_REFUSED_KIND ? MOESI_ACCEPTED : refusal;
+}
+
+/*
+ * The model's scratch range and its device range: count lines from line first on,
+ * 0 for none. They are set after moesi_model_init or moesi_model_open, which empty
+ * both, and before the first order: what this file's first page says of a device
+ * range is said of one that stands from the start. A range takes the place of the
+ * one before, for the orders that come; memory and tables stay.
+ *
+ * Returns what moesi_model_refusal then does, 12 where either range ends beyond
+ * lines. The range is set all the same, so that a program which looks at no return
+ * value doesn't run without it: every order is refused until both ranges fit.
+ */
+static inline uint64_t moesi_model_set_scratch(struct moesi_model *m, uint64_t first, uint64_t count)
+{
+    m->scratch_first = first;
+    m->scratch_count = count;
+    return moesi_model_refusal(m);
+}
+
+static inline uint64_t moesi_model_set_device(struct moesi_model *m, uint64_t first, uint64_t count)
+{
+    m->device_first = first;
+    m->device_count = count;
+    return moesi_model_refusal(m);
 }
 
 /* Carries out one order. A refused one has its number in the answer, and changes nothing. */
@@ -637,8 +730,9 @@ static inline struct moesi_answer moesi_model_step(struct moesi_model *m, uint64
 {
     uint8_t bytes[MOESI_ANSWER_BYTES];
 
-    moesi_step(m->ports, m->sets, m->lines, word, operand, m->memory, m->sizes.memory, m->tags, m->sizes.tags,
-               m->states, m->sizes.states, m->data, m->sizes.data, bytes, sizeof bytes);
+    moesi_step(m->ports, m->sets, m->lines, m->scratch_first, m->scratch_count, m->device_first, m->device_count,
+               word, operand, m->memory, m->sizes.memory, m->tags, m->sizes.tags, m->states, m->sizes.states, m->data,
+               m->sizes.data, bytes, sizeof bytes);
     return moesi_read_answer(bytes);
 }
 
@@ -652,8 +746,9 @@ static inline struct moesi_answer moesi_model_step_totals(struct moesi_model *m,
 {
     uint8_t bytes[MOESI_ANSWER_BYTES];
 
-    moesi_step_totals(m->ports, m->sets, m->lines, word, operand, m->memory, m->sizes.memory, m->tags, m->sizes.tags,
-                      m->states, m->sizes.states, m->data, m->sizes.data, bytes, sizeof bytes, record, record_len);
+    moesi_step_totals(m->ports, m->sets, m->lines, m->scratch_first, m->scratch_count, m->device_first,
+                      m->device_count, word, operand, m->memory, m->sizes.memory, m->tags, m->sizes.tags, m->states,
+                      m->sizes.states, m->data, m->sizes.data, bytes, sizeof bytes, record, record_len);
     return moesi_read_answer(bytes);
 }
 
@@ -662,8 +757,9 @@ static inline int moesi_model_passes(const struct moesi_model *m)
 {
     uint8_t verdict = 0;
 
-    moesi_audit(m->ports, m->sets, m->lines, m->memory, m->sizes.memory, m->tags, m->sizes.tags, m->states,
-                m->sizes.states, m->data, m->sizes.data, &verdict, MOESI_VERDICT_BYTES);
+    moesi_audit(m->ports, m->sets, m->lines, m->scratch_first, m->scratch_count, m->device_first, m->device_count,
+                m->memory, m->sizes.memory, m->tags, m->sizes.tags, m->states, m->sizes.states, m->data, m->sizes.data,
+                &verdict, MOESI_VERDICT_BYTES);
     return verdict == 1;
 }
 

@@ -24,6 +24,8 @@ int report_call(struct tester *tester, const char *what, struct second_shape sha
 
     printf("  %s: shape %" PRIu64 " %" PRIu64 " %" PRIu64 ", word 0x%" PRIx64 " operand 0x%" PRIx64 "\n", what,
            shape.ports, shape.sets, shape.lines, word, operand);
+    printf("  scratch %" PRIu64 " %" PRIu64 ", device %" PRIu64 " %" PRIu64 "\n", shape.scratch.first,
+           shape.scratch.count, shape.device.first, shape.device.count);
     printf("  lengths: memory %zu, tags %zu, states %zu, data %zu, result %zu, record %zu", slices[MEMORY].length,
            slices[TAGS].length, slices[STATES].length, slices[DATA].length, slices[RESULT].length,
            slices[RECORD].length);
@@ -97,7 +99,7 @@ static int is_as_listed(struct tester *tester, size_t k)
 
 int begin_at_five_and_seven(struct tester *tester)
 {
-    static const struct second_shape shape = {2, 1, 2};
+    static const struct second_shape shape = SHAPE(2, 1, 2);
     struct history *history = &tester->history;
 
     history->start.shape = shape;
@@ -163,6 +165,7 @@ int add_to_start(struct tester *tester, uint64_t word, uint64_t operand)
 
     history->fresh = 0;
     history->chosen = 1;
+    history->ranges = 0;
     history->audit_every = 100;
     tester->pair.second = history->start;
     pair_lend(&tester->pair, (unsigned)(word & 7));
@@ -274,6 +277,26 @@ static size_t table_stride(unsigned ports, uint64_t percent)
     return stride;
 }
 
+/* Scratch and device range under which a table is tried: none; line 0 and line 1, and the other way round; all lines in
+   both. With three and four ports each table is tried without ranges, and one in 25 under each of the others too. */
+static const struct second_range small_ranges[4][2] = {
+    {{0, 0}, {0, 0}}, {{0, 1}, {1, 1}}, {{1, 1}, {0, 1}}, {{0, 2}, {0, 2}},
+};
+
+static int try_under_ranges(struct tester *tester, size_t number)
+{
+    struct second_shape *shape = &tester->history.start.shape;
+    size_t count = shape->ports < 3 || number % 25 == 0 ? 4 : 1;
+
+    for (size_t k = 0; k < count; k++) {
+        shape->scratch = small_ranges[k][0];
+        shape->device = small_ranges[k][1];
+        if (!try_table(tester))
+            return 0;
+    }
+    return 1;
+}
+
 /* Run r: tables of r + 1 ports, one set, two lines. For one to three ports all entries, for four the states alone. */
 static int every_small_table(struct tester *tester, uint64_t run)
 {
@@ -295,7 +318,7 @@ static int every_small_table(struct tester *tester, uint64_t run)
             start->states[port] = choices[rest % count].state;
             start->tags[port] = choices[rest % count].tag;
         }
-        if (!try_table(tester))
+        if (!try_under_ranges(tester, table / stride))
             return 0;
     }
     return 1;
@@ -381,10 +404,12 @@ static int all_histories(struct tester *tester, uint64_t run)
 /* A few shapes that stand at an edge, each run longer. */
 static int long_histories(struct tester *tester, uint64_t run)
 {
-    static const struct second_shape shapes[6] = {{3, 2, 7},  {1, 1, 1},   {8, 1, 16},
-                                                  {2, 64, 1}, {8, 64, 64}, {8, 64, 4096}};
+    static const struct second_shape shapes[6] = {SHAPE(3, 2, 7),  SHAPE(1, 1, 1),   SHAPE(8, 1, 16),
+                                                  SHAPE(2, 64, 1), SHAPE(8, 64, 64), SHAPE(8, 64, 4096)};
     struct second_shape shape = shapes[run % 6];
 
+    if (run % 6 > 0)
+        traffic_ranges(&tester->generator, &shape);
     return fresh_history(tester, shape, shape.lines > 1000 ? LONGEST_HISTORY / 3 : LONGEST_HISTORY);
 }
 
@@ -570,38 +595,38 @@ struct device_case {
 
 static const struct device_case device_case_list[] = {
     /* Of several owners the lowest-numbered one gives the word, and every holder becomes I. */
-    {{3, 1, 2}, {9, 11, 12}, {0, 0, 0}, 0x0105, {0, 0, 0, 0, 1}, {0, 0, 0}, {0x22FF, 7}},
-    {{3, 1, 2}, {12, 12, 11}, {0, 0, 0}, 0x0105, {0, 0, 0, 0, 1}, {0, 0, 0}, {0x11FF, 7}},
-    {{3, 1, 2}, {10, 2, 12}, {0, 0, 0}, 0x0105, {0, 0, 0, 0, 1}, {0, 0, 0}, {0x33FF, 7}},
-    {{4, 1, 2}, {2, 11, 11, 11}, {0, 0, 0, 0}, 0x0005, {0, 0, 0, 0, 1}, {0, 0, 0, 0}, {0x2200, 7}},
+    {SHAPE(3, 1, 2), {9, 11, 12}, {0, 0, 0}, 0x0105, {0, 0, 0, 0, 1}, {0, 0, 0}, {0x22FF, 7}},
+    {SHAPE(3, 1, 2), {12, 12, 11}, {0, 0, 0}, 0x0105, {0, 0, 0, 0, 1}, {0, 0, 0}, {0x11FF, 7}},
+    {SHAPE(3, 1, 2), {10, 2, 12}, {0, 0, 0}, 0x0105, {0, 0, 0, 0, 1}, {0, 0, 0}, {0x33FF, 7}},
+    {SHAPE(4, 1, 2), {2, 11, 11, 11}, {0, 0, 0, 0}, 0x0005, {0, 0, 0, 0, 1}, {0, 0, 0, 0}, {0x2200, 7}},
     /* Owners of another line don't count, nor do entries in I, and both stay. */
-    {{3, 1, 2}, {12, 11, 9}, {1, 0, 0}, 0x0105, {0, 0, 0, 0, 1}, {12, 0, 0}, {0x22FF, 7}},
-    {{3, 1, 2}, {11, 9, 12}, {1, 0, 1}, 0x10105, {0, 0, 0, 0, 1}, {0, 9, 0}, {5, 0x11FF}},
-    {{3, 1, 2}, {0, 12, 12}, {0, 1, 0}, 0x0105, {0, 0, 0, 0, 1}, {0, 12, 0}, {0x33FF, 7}},
-    {{3, 1, 2}, {9, 1, 10}, {1, 1, 1}, 0x0105, {0, 0, 0, 1, 1}, {9, 1, 10}, {0xFF, 7}},
-    {{2, 2, 4}, {12, 0, 9, 0}, {1, 0, 0, 0}, 0x0105, {0, 0, 0, 1, 1}, {12, 0, 0, 0}, {0xFF, 7}},
+    {SHAPE(3, 1, 2), {12, 11, 9}, {1, 0, 0}, 0x0105, {0, 0, 0, 0, 1}, {12, 0, 0}, {0x22FF, 7}},
+    {SHAPE(3, 1, 2), {11, 9, 12}, {1, 0, 1}, 0x10105, {0, 0, 0, 0, 1}, {0, 9, 0}, {5, 0x11FF}},
+    {SHAPE(3, 1, 2), {0, 12, 12}, {0, 1, 0}, 0x0105, {0, 0, 0, 0, 1}, {0, 12, 0}, {0x33FF, 7}},
+    {SHAPE(3, 1, 2), {9, 1, 10}, {1, 1, 1}, 0x0105, {0, 0, 0, 1, 1}, {9, 1, 10}, {0xFF, 7}},
+    {SHAPE(2, 2, 4), {12, 0, 9, 0}, {1, 0, 0, 0}, 0x0105, {0, 0, 0, 1, 1}, {12, 0, 0, 0}, {0xFF, 7}},
     /* Without an owner the word is memory's, also where the holders have others. */
-    {{3, 1, 2}, {1, 9, 2}, {0, 0, 0}, 0x0105, {0, 0, 0, 1, 1}, {0, 0, 0}, {0xFF, 7}},
-    {{3, 1, 2}, {10, 10, 9}, {0, 0, 0}, 0x0005, {0, 0, 0, 1, 1}, {0, 0, 0}, {5, 7}},
-    {{3, 1, 2}, {10, 0, 9}, {0, 0, 0}, 0xFF05, {0, 0, 0, 1, 1}, {0, 0, 0}, {0xFF, 7}},
+    {SHAPE(3, 1, 2), {1, 9, 2}, {0, 0, 0}, 0x0105, {0, 0, 0, 1, 1}, {0, 0, 0}, {0xFF, 7}},
+    {SHAPE(3, 1, 2), {10, 10, 9}, {0, 0, 0}, 0x0005, {0, 0, 0, 1, 1}, {0, 0, 0}, {5, 7}},
+    {SHAPE(3, 1, 2), {10, 0, 9}, {0, 0, 0}, 0xFF05, {0, 0, 0, 1, 1}, {0, 0, 0}, {0xFF, 7}},
     /* The tag of an entry in I is not asked, nor are entries at another index. */
-    {{3, 1, 2}, {0, 9, 0}, {9, 0, 0}, 0x0105, {0, 0, 0, 1, 1}, {0, 0, 0}, {0xFF, 7}},
-    {{2, 2, 4}, {11, 8, 9, 13}, {0, 0, 0, 0}, 0x0105, {0, 0, 0, 0, 1}, {0, 8, 0, 13}, {0x11FF, 7}},
-    {{2, 2, 3}, {0, 9, 0, 0}, {0, 1, 0, 0}, 0x0105, {0, 0, 0, 1, 1}, {0, 9, 0, 0}, {0xFF, 7}},
+    {SHAPE(3, 1, 2), {0, 9, 0}, {9, 0, 0}, 0x0105, {0, 0, 0, 1, 1}, {0, 0, 0}, {0xFF, 7}},
+    {SHAPE(2, 2, 4), {11, 8, 9, 13}, {0, 0, 0, 0}, 0x0105, {0, 0, 0, 0, 1}, {0, 8, 0, 13}, {0x11FF, 7}},
+    {SHAPE(2, 2, 3), {0, 9, 0, 0}, {0, 1, 0, 0}, 0x0105, {0, 0, 0, 1, 1}, {0, 9, 0, 0}, {0xFF, 7}},
     /* Refusal 8: at any port a byte that is no state, or a home line that there isn't; also of no holder. */
-    {{3, 1, 2}, {8, 0, 0}, {0, 0, 0}, 0x0105, {8, 0, 0, 0, 0}, {8, 0, 0}, {5, 7}},
-    {{3, 1, 2}, {12, 0, 13}, {0, 0, 0}, 0x0105, {8, 0, 0, 0, 0}, {12, 0, 13}, {5, 7}},
-    {{3, 1, 2}, {0, 255, 0}, {0, 1, 0}, 0x0005, {8, 0, 0, 0, 0}, {0, 255, 0}, {5, 7}},
-    {{3, 1, 2}, {9, 11, 0}, {0, 2, 0}, 0x0105, {8, 0, 0, 0, 0}, {9, 11, 0}, {5, 7}},
-    {{3, 1, 2}, {0, 0, 1}, {0, 0, 0xFFFFFFFF}, 0xFF05, {8, 0, 0, 0, 0}, {0, 0, 1}, {5, 7}},
-    {{2, 2, 4}, {11, 8, 9, 13}, {0, 0, 0, 0}, 0x10105, {8, 0, 0, 0, 0}, {11, 8, 9, 13}, {5, 7}},
-    {{2, 2, 3}, {0, 9, 0, 0}, {0, 1, 0, 0}, 0x10105, {8, 0, 0, 0, 0}, {0, 9, 0, 0}, {5, 7}},
+    {SHAPE(3, 1, 2), {8, 0, 0}, {0, 0, 0}, 0x0105, {8, 0, 0, 0, 0}, {8, 0, 0}, {5, 7}},
+    {SHAPE(3, 1, 2), {12, 0, 13}, {0, 0, 0}, 0x0105, {8, 0, 0, 0, 0}, {12, 0, 13}, {5, 7}},
+    {SHAPE(3, 1, 2), {0, 255, 0}, {0, 1, 0}, 0x0005, {8, 0, 0, 0, 0}, {0, 255, 0}, {5, 7}},
+    {SHAPE(3, 1, 2), {9, 11, 0}, {0, 2, 0}, 0x0105, {8, 0, 0, 0, 0}, {9, 11, 0}, {5, 7}},
+    {SHAPE(3, 1, 2), {0, 0, 1}, {0, 0, 0xFFFFFFFF}, 0xFF05, {8, 0, 0, 0, 0}, {0, 0, 1}, {5, 7}},
+    {SHAPE(2, 2, 4), {11, 8, 9, 13}, {0, 0, 0, 0}, 0x10105, {8, 0, 0, 0, 0}, {11, 8, 9, 13}, {5, 7}},
+    {SHAPE(2, 2, 3), {0, 9, 0, 0}, {0, 1, 0, 0}, 0x10105, {8, 0, 0, 0, 0}, {0, 9, 0, 0}, {5, 7}},
     /* Of two refusals the first: 4 before 6 and 8, 6 before 8. The port is not asked, so that 5 is none of them. */
-    {{3, 1, 2}, {0, 3, 0}, {0, 0, 0}, 0x01FD, {8, 0, 0, 0, 0}, {0, 3, 0}, {5, 7}},
-    {{3, 1, 2}, {0, 3, 0}, {0, 0, 0}, 0x20105, {6, 0, 0, 0, 0}, {0, 3, 0}, {5, 7}},
-    {{3, 1, 2}, {0, 3, 0}, {0, 0, 0}, 0x201F5, {6, 0, 0, 0, 0}, {0, 3, 0}, {5, 7}},
-    {{3, 1, 2}, {0, 3, 0}, {0, 0, 0}, 0x0106, {4, 0, 0, 0, 0}, {0, 3, 0}, {5, 7}},
-    {{3, 1, 2}, {0, 3, 0}, {0, 0, 0}, 0x201F7, {4, 0, 0, 0, 0}, {0, 3, 0}, {5, 7}},
+    {SHAPE(3, 1, 2), {0, 3, 0}, {0, 0, 0}, 0x01FD, {8, 0, 0, 0, 0}, {0, 3, 0}, {5, 7}},
+    {SHAPE(3, 1, 2), {0, 3, 0}, {0, 0, 0}, 0x20105, {6, 0, 0, 0, 0}, {0, 3, 0}, {5, 7}},
+    {SHAPE(3, 1, 2), {0, 3, 0}, {0, 0, 0}, 0x201F5, {6, 0, 0, 0, 0}, {0, 3, 0}, {5, 7}},
+    {SHAPE(3, 1, 2), {0, 3, 0}, {0, 0, 0}, 0x0106, {4, 0, 0, 0, 0}, {0, 3, 0}, {5, 7}},
+    {SHAPE(3, 1, 2), {0, 3, 0}, {0, 0, 0}, 0x201F7, {4, 0, 0, 0, 0}, {0, 3, 0}, {5, 7}},
 };
 
 enum { DEVICE_CASES = sizeof device_case_list / sizeof device_case_list[0] };
@@ -758,8 +783,9 @@ static int every_shape(struct tester *tester, uint64_t run)
 {
     for (unsigned ports = 1; ports <= 8; ports++) {
         for (unsigned log = 0; log <= 6; log++) {
-            struct second_shape shape = {ports, 1u << log, lines_of_step(run)};
+            struct second_shape shape = SHAPE(ports, 1u << log, lines_of_step(run));
 
+            traffic_ranges(&tester->generator, &shape);
             if (!fresh_history(tester, shape, 3 + generator_below(&tester->generator, 5)))
                 return 0;
         }
@@ -843,13 +869,31 @@ static int wrong_lengths(struct tester *tester, uint64_t run)
     struct second_shape shape = run % 2 ? traffic_any_shape(generator) : traffic_small_shape(generator);
 
     place_wrongly(tester, shape, run % 3 ? 1u << generator_below(generator, 4) : generator_below(generator, 16));
+    if (generator_percent(generator, 30))
+        traffic_ranges_beyond(generator, &shape);
     return make_calls(tester, shape);
+}
+
+/* Ranges for a call that is refused or not: within the lines that there may be at most, beyond, or any numbers. */
+static void put_ranges(struct tester *tester, struct second_shape *shape)
+{
+    struct second_shape largest = SHAPE(8, 64, 4096);
+
+    if (shape->lines >= 1 && shape->lines <= 4096)
+        largest.lines = shape->lines;
+    if (generator_percent(&tester->generator, 50))
+        traffic_ranges(&tester->generator, &largest);
+    else
+        traffic_ranges_beyond(&tester->generator, &largest);
+    shape->scratch = largest.scratch;
+    shape->device = largest.device;
 }
 
 /* All slices empty, with and without NULL, under shapes in range and out of it. */
 static int empty_slices(struct tester *tester, uint64_t run)
 {
-    static const struct second_shape shapes[4] = {{1, 1, 1}, {8, 64, 4096}, {0, 0, 0}, {9, 1, 1}};
+    static const struct second_shape shapes[4] = {SHAPE(1, 1, 1), SHAPE(8, 64, 4096), SHAPE(0, 0, 0), SHAPE(9, 1, 1)};
+    struct second_shape shape = shapes[run % 4];
 
     for (unsigned nulls = 0; nulls < 32; nulls++) {
         for (unsigned s = 0; s <= RESULT; s++) {
@@ -858,7 +902,9 @@ static int empty_slices(struct tester *tester, uint64_t run)
             else
                 pair_place(&tester->pair, (enum slice)s, 0, s);
         }
-        if (!make_calls(tester, shapes[run % 4]))
+        if (nulls % 2)
+            put_ranges(tester, &shape);
+        if (!make_calls(tester, shape))
             return 0;
     }
     return 1;
@@ -900,20 +946,26 @@ static int odd_shapes(struct tester *tester, uint64_t run)
     if ((uint32_t)odd.sets == 1 || (uint32_t)odd.sets == 64)
         lent.sets = (uint32_t)odd.sets;
     place_wrongly(tester, lent, run % 5 == 0 ? generator_below(generator, 16) : 0);
+    if (generator_percent(generator, 40))
+        put_ranges(tester, &odd);
     return make_calls(tester, odd);
 }
 
 /* Shapes just out of range with exactly the lengths that their numbers would give. */
 static int shapes_with_their_lengths(struct tester *tester, uint64_t run)
 {
-    static const struct second_shape shapes[] = {{0, 1, 1}, {1, 0, 1}, {1, 1, 0}, {9, 1, 1}, {9, 4, 9}, {2, 3, 5},
-                                                 {8, 65, 10}, {1, 128, 1}, {1, 1, 4097}, {8, 64, 4097}, {16, 2, 2}};
+    static const struct second_shape shapes[] = {
+        SHAPE(0, 1, 1),   SHAPE(1, 0, 1),   SHAPE(1, 1, 0),    SHAPE(9, 1, 1),     SHAPE(9, 4, 9),  SHAPE(2, 3, 5),
+        SHAPE(8, 65, 10), SHAPE(1, 128, 1), SHAPE(1, 1, 4097), SHAPE(8, 64, 4097), SHAPE(16, 2, 2),
+    };
     struct second_shape shape = shapes[run % (sizeof shapes / sizeof shapes[0])];
     struct second_lengths lengths = second_lengths_of(shape, 0);
     size_t due[4] = {lengths.memory, lengths.tags, lengths.states, lengths.data};
 
     for (unsigned s = MEMORY; s <= DATA; s++)
         pair_place(&tester->pair, (enum slice)s, due[s], generator_below(&tester->generator, 8));
+    if (run % 2)
+        put_ranges(tester, &shape);
     return make_calls(tester, shape);
 }
 
@@ -936,6 +988,12 @@ static const struct group groups[] = {
     {"what a device wrote is read", device_fills, 1000, 1},
     {"stores that store the same, number by number", stores_numbers, 2, 0},
     {"stores on lines in every state, and polling loops", stores_in_histories, 3000, 1},
+    {"ranges, number by number", ranges_numbers, RANGES_PARTS, 0},
+    {"ranges are the modes of the orders in them", ranges_are_modes, 8000, 1},
+    {"ranges that end beyond lines", ranges_refused, 12000, 1},
+    {"a device reads the device range right", ranges_device, 2000, 1},
+    {"ranges that change between orders", ranges_change, 3000, 1},
+    {"empty ranges, wherever they start", ranges_empty, 800, 1},
     {"totals, number by number", totals_numbers, 3, 0},
     {"totals are the sums over the answers", totals_histories, 2000, 1},
     {"records of any totals", totals_records, 12000, 1},
@@ -992,6 +1050,7 @@ static int met_everything(const struct tally *tally)
         met = met && tally->step_refusals[refusal] > 0;
     for (int refusal = 2; refusal <= 3; refusal++)
         met = met && tally->fresh_refusals[refusal] > 0 && tally->audit_refusals[refusal] > 0;
+    met = met && tally->fresh_refusals[12] > 0 && tally->step_refusals[12] > 0 && tally->audit_refusals[12] > 0;
     for (int kind = 0; kind < SECOND_KINDS; kind++)
         met = met && tally->kinds[kind] > 0;
     for (int writes = 0; writes < 3; writes++)
@@ -1057,6 +1116,39 @@ static int met_all_stores(const struct tally *tally, uint64_t percent)
     return met;
 }
 
+/* How often the rarest came up of accesses in and out of the ranges, by kind and the order's mode, and at edges. */
+static uint64_t rarest_ranged(const struct tally *tally)
+{
+    const uint64_t *ranged = &tally->ranged[0][0][0][0], *edges = &tally->edges[0][0];
+    uint64_t rarest = UINT64_MAX;
+
+    for (unsigned k = 0; k < 2 * PLACES * 2 * 3; k++)
+        rarest = ranged[k] < rarest ? ranged[k] : rarest;
+    for (unsigned k = 0; k < 2 * 4; k++)
+        rarest = edges[k] < rarest ? edges[k] : rarest;
+    return rarest;
+}
+
+/* Whether ranges met everything, the more often the longer the run: refused ones from each call, by which of them ends
+   beyond lines, beside each other refusal; sums that wrap, empty ones beyond lines, and such as end with the last. */
+static int met_all_ranges(const struct tally *tally, uint64_t percent)
+{
+    int met = rarest_ranged(tally) >= 10 * percent && tally->device_range_reads >= 50 * percent &&
+              tally->changed_ranges >= 50 * percent && tally->other_first[STEP_TOTALS][9] >= 5 * percent;
+
+    for (int call = FRESH; call <= STEP_TOTALS; call++) {
+        for (int place = IN_SCRATCH; place < PLACES; place++)
+            met = met && tally->twelves[call][place] >= 5 * percent;
+        met = met && tally->other_first[call][2] >= 2 * percent && tally->other_first[call][3] >= 2 * percent;
+    }
+    for (int refusal = 4; refusal <= 7; refusal++)
+        met = met && tally->twelve_first[refusal] >= percent;
+    for (int device = 0; device < 2; device++)
+        met = met && tally->wraps[device] >= 5 * percent && tally->empty_beyond[device] >= 5 * percent &&
+              tally->to_the_end[device] >= 5 * percent;
+    return met;
+}
+
 /* Whether steps with a record met everything: each kind and refusal, each total at its limits, and other lengths. */
 static int met_all_of_totals(const struct tally *tally)
 {
@@ -1065,6 +1157,7 @@ static int met_all_of_totals(const struct tally *tally)
 
     for (int refusal = 2; refusal <= 9; refusal++)
         met = met && tally->totals_refusals[refusal] >= 5;
+    met = met && tally->totals_refusals[12] >= 5;
     for (int kind = 0; kind < SECOND_KINDS; kind++)
         met = met && tally->totals_kinds[kind] >= 20;
     for (int writes = 0; writes < 3; writes++)
@@ -1134,6 +1227,7 @@ static void print_numbers(const char *what, const uint64_t *numbers, int count)
 static void print_totals_tally(const struct tally *tally)
 {
     print_numbers("  with a record: refused 2 to 9:", tally->totals_refusals + 2, 8);
+    print_numbers("; 12:", tally->totals_refusals + 12, 1);
     print_numbers("; accepted by kind:", tally->totals_kinds, SECOND_KINDS);
     print_numbers("; swaps failed, succeeded:", tally->totals_swaps, 2);
     print_numbers("\n  totals at 2^64 - 3, by place:", tally->brims, SECOND_TOTALS);
@@ -1167,6 +1261,26 @@ static void print_stores_tally(const struct tally *tally)
     printf("\n");
 }
 
+static void print_ranges_tally(const struct tally *tally)
+{
+    static const char *const calls[4] = {"  fresh refused 12", "; step", "; audit", "; with a record"};
+
+    for (int call = FRESH; call <= STEP_TOTALS; call++) {
+        print_numbers(calls[call], tally->twelves[call] + IN_SCRATCH, 3);
+        print_numbers(", 2 and 3 before it", tally->other_first[call] + 2, 2);
+    }
+    print_numbers("\n  9 before 12:", &tally->other_first[STEP_TOTALS][9], 1);
+    print_numbers("; 12 before 4 to 7:", tally->twelve_first + 4, 4);
+    print_numbers("; sums that wrap:", tally->wraps, 2);
+    print_numbers("; empty beyond lines:", tally->empty_beyond, 2);
+    print_numbers("; up to the last line:", tally->to_the_end, 2);
+    print_numbers("\n  edges of scratch:", tally->edges[0], 4);
+    print_numbers("; of the device range:", tally->edges[1], 4);
+    print_numbers("; device reads in it:", &tally->device_range_reads, 1);
+    print_numbers("; changes:", &tally->changed_ranges, 1);
+    printf("; the rarest access %" PRIu64 "\n", rarest_ranged(tally));
+}
+
 static void print_edition_tally(const struct tally *tally)
 {
     for (int way = 0; way < 2; way++) {
@@ -1195,15 +1309,18 @@ static int run_all(struct tester *tester)
         failed += !run_group(tester, number);
     print_tally(&tester->pair.tally, (double)(clock() - start) / CLOCKS_PER_SEC);
     print_stores_tally(&tester->pair.tally);
+    print_ranges_tally(&tester->pair.tally);
     print_totals_tally(&tester->pair.tally);
     print_edition_tally(&tester->pair.tally);
     /* A run of some of the groups need not meet everything. */
     if (failed || tester->from > 0)
         return !failed;
     met = met_everything(&tester->pair.tally) && met_all_stores(&tester->pair.tally, tester->percent) &&
+          met_all_ranges(&tester->pair.tally, tester->percent) &&
           met_all_of_totals(&tester->pair.tally) && met_all_of_conversions(&tester->pair.tally, tester->percent) &&
           met_all_rules(&tester->pair.tally, tester->percent);
-    printf("%s %s: every refusal, count, store, rule and verdict was met\n", met ? "ok" : "FAILED", tester->name);
+    printf("%s %s: every refusal, count, store, range, rule and verdict was met\n", met ? "ok" : "FAILED",
+           tester->name);
     return met;
 }
 

@@ -154,7 +154,7 @@ static int conversion_is(struct tester *tester, enum call call, struct second_sh
 }
 
 /* Two sets, all bytes written out, with each letter once. Two of the tags are beyond every line. */
-static const struct second_shape five_shape = {5, 1, 2};
+static const struct second_shape five_shape = SHAPE(5, 1, 2);
 static const uint8_t five_tags[20] = {0, 0, 0, 0, 1, 0, 0, 0, 0xFF, 0xFE, 0xFD, 0xFC, 2, 0, 0, 0x80, 0, 0, 0, 0};
 static const uint8_t five_old[5] = {4, 0, 3, 1, 2};
 static const uint8_t five_new[5] = {12, 0, 11, 9, 10};
@@ -188,69 +188,69 @@ struct edition_case {
 
 static const struct edition_case edition_list[] = {
     /* From old: every letter, and sets of one letter. Nobody asks whether a set is coherent. */
-    {FROM_OLD, {2, 4, 3}, {0, 1, 2, 3, 4, 1, 2, 3}, 0, {0, 9, 10, 11, 12, 9, 10, 11}},
-    {FROM_OLD, {8, 1, 4096}, {4, 3, 2, 1, 0, 0, 4, 4}, 0, {12, 11, 10, 9, 0, 0, 12, 12}},
-    {FROM_OLD, {1, 8, 1}, {0, 0, 0, 0, 0, 0, 0, 0}, 0, {0, 0, 0, 0, 0, 0, 0, 0}},
-    {FROM_OLD, {4, 2, 1}, {1, 1, 1, 1, 1, 1, 1, 1}, 0, {9, 9, 9, 9, 9, 9, 9, 9}},
-    {FROM_OLD, {8, 1, 1}, {2, 2, 2, 2, 2, 2, 2, 2}, 0, {10, 10, 10, 10, 10, 10, 10, 10}},
-    {FROM_OLD, {8, 1, 2}, {3, 3, 3, 3, 3, 3, 3, 3}, 0, {11, 11, 11, 11, 11, 11, 11, 11}},
-    {FROM_OLD, {1, 8, 9}, {4, 4, 4, 4, 4, 4, 4, 4}, 0, {12, 12, 12, 12, 12, 12, 12, 12}},
+    {FROM_OLD, SHAPE(2, 4, 3), {0, 1, 2, 3, 4, 1, 2, 3}, 0, {0, 9, 10, 11, 12, 9, 10, 11}},
+    {FROM_OLD, SHAPE(8, 1, 4096), {4, 3, 2, 1, 0, 0, 4, 4}, 0, {12, 11, 10, 9, 0, 0, 12, 12}},
+    {FROM_OLD, SHAPE(1, 8, 1), {0, 0, 0, 0, 0, 0, 0, 0}, 0, {0, 0, 0, 0, 0, 0, 0, 0}},
+    {FROM_OLD, SHAPE(4, 2, 1), {1, 1, 1, 1, 1, 1, 1, 1}, 0, {9, 9, 9, 9, 9, 9, 9, 9}},
+    {FROM_OLD, SHAPE(8, 1, 1), {2, 2, 2, 2, 2, 2, 2, 2}, 0, {10, 10, 10, 10, 10, 10, 10, 10}},
+    {FROM_OLD, SHAPE(8, 1, 2), {3, 3, 3, 3, 3, 3, 3, 3}, 0, {11, 11, 11, 11, 11, 11, 11, 11}},
+    {FROM_OLD, SHAPE(1, 8, 9), {4, 4, 4, 4, 4, 4, 4, 4}, 0, {12, 12, 12, 12, 12, 12, 12, 12}},
     /* To old: the same. */
-    {TO_OLD, {2, 4, 3}, {0, 9, 10, 11, 12, 9, 10, 11}, 0, {0, 1, 2, 3, 4, 1, 2, 3}},
-    {TO_OLD, {8, 1, 4096}, {12, 11, 10, 9, 0, 0, 12, 12}, 0, {4, 3, 2, 1, 0, 0, 4, 4}},
-    {TO_OLD, {1, 8, 1}, {0, 0, 0, 0, 0, 0, 0, 0}, 0, {0, 0, 0, 0, 0, 0, 0, 0}},
-    {TO_OLD, {4, 2, 1}, {9, 9, 9, 9, 9, 9, 9, 9}, 0, {1, 1, 1, 1, 1, 1, 1, 1}},
-    {TO_OLD, {8, 1, 1}, {10, 10, 10, 10, 10, 10, 10, 10}, 0, {2, 2, 2, 2, 2, 2, 2, 2}},
-    {TO_OLD, {8, 1, 2}, {11, 11, 11, 11, 11, 11, 11, 11}, 0, {3, 3, 3, 3, 3, 3, 3, 3}},
-    {TO_OLD, {1, 8, 9}, {12, 12, 12, 12, 12, 12, 12, 12}, 0, {4, 4, 4, 4, 4, 4, 4, 4}},
+    {TO_OLD, SHAPE(2, 4, 3), {0, 9, 10, 11, 12, 9, 10, 11}, 0, {0, 1, 2, 3, 4, 1, 2, 3}},
+    {TO_OLD, SHAPE(8, 1, 4096), {12, 11, 10, 9, 0, 0, 12, 12}, 0, {4, 3, 2, 1, 0, 0, 4, 4}},
+    {TO_OLD, SHAPE(1, 8, 1), {0, 0, 0, 0, 0, 0, 0, 0}, 0, {0, 0, 0, 0, 0, 0, 0, 0}},
+    {TO_OLD, SHAPE(4, 2, 1), {9, 9, 9, 9, 9, 9, 9, 9}, 0, {1, 1, 1, 1, 1, 1, 1, 1}},
+    {TO_OLD, SHAPE(8, 1, 1), {10, 10, 10, 10, 10, 10, 10, 10}, 0, {2, 2, 2, 2, 2, 2, 2, 2}},
+    {TO_OLD, SHAPE(8, 1, 2), {11, 11, 11, 11, 11, 11, 11, 11}, 0, {3, 3, 3, 3, 3, 3, 3, 3}},
+    {TO_OLD, SHAPE(1, 8, 9), {12, 12, 12, 12, 12, 12, 12, 12}, 0, {4, 4, 4, 4, 4, 4, 4, 4}},
     /* From old, 10: a byte above 4, first, last, everywhere; and the bytes of the new edition. */
-    {FROM_OLD, {2, 4, 3}, {5, 1, 2, 3, 4, 1, 2, 3}, 10, {0}},
-    {FROM_OLD, {2, 4, 3}, {0, 1, 2, 3, 4, 1, 2, 5}, 10, {0}},
-    {FROM_OLD, {2, 4, 3}, {0, 0, 0, 0, 0, 0, 0, 255}, 10, {0}},
-    {FROM_OLD, {8, 1, 2}, {5, 6, 7, 8, 9, 10, 11, 12}, 10, {0}},
-    {FROM_OLD, {1, 8, 9}, {0, 9, 10, 11, 12, 9, 10, 11}, 10, {0}},
-    {FROM_OLD, {4, 2, 1}, {0, 1, 2, 1, 2, 9, 1, 1}, 10, {0}},
+    {FROM_OLD, SHAPE(2, 4, 3), {5, 1, 2, 3, 4, 1, 2, 3}, 10, {0}},
+    {FROM_OLD, SHAPE(2, 4, 3), {0, 1, 2, 3, 4, 1, 2, 5}, 10, {0}},
+    {FROM_OLD, SHAPE(2, 4, 3), {0, 0, 0, 0, 0, 0, 0, 255}, 10, {0}},
+    {FROM_OLD, SHAPE(8, 1, 2), {5, 6, 7, 8, 9, 10, 11, 12}, 10, {0}},
+    {FROM_OLD, SHAPE(1, 8, 9), {0, 9, 10, 11, 12, 9, 10, 11}, 10, {0}},
+    {FROM_OLD, SHAPE(4, 2, 1), {0, 1, 2, 1, 2, 9, 1, 1}, 10, {0}},
     /* To old, 10: a byte that is no state, also the old edition's 3 and 4. */
-    {TO_OLD, {2, 4, 3}, {3, 9, 10, 11, 12, 9, 10, 11}, 10, {0}},
-    {TO_OLD, {2, 4, 3}, {0, 9, 10, 11, 12, 9, 10, 13}, 10, {0}},
-    {TO_OLD, {2, 4, 3}, {0, 0, 0, 0, 0, 0, 0, 4}, 10, {0}},
-    {TO_OLD, {8, 1, 2}, {3, 4, 5, 6, 7, 8, 13, 14}, 10, {0}},
-    {TO_OLD, {1, 8, 9}, {0, 9, 9, 8, 9, 0, 0, 0}, 10, {0}},
+    {TO_OLD, SHAPE(2, 4, 3), {3, 9, 10, 11, 12, 9, 10, 11}, 10, {0}},
+    {TO_OLD, SHAPE(2, 4, 3), {0, 9, 10, 11, 12, 9, 10, 13}, 10, {0}},
+    {TO_OLD, SHAPE(2, 4, 3), {0, 0, 0, 0, 0, 0, 0, 4}, 10, {0}},
+    {TO_OLD, SHAPE(8, 1, 2), {3, 4, 5, 6, 7, 8, 13, 14}, 10, {0}},
+    {TO_OLD, SHAPE(1, 8, 9), {0, 9, 9, 8, 9, 0, 0, 0}, 10, {0}},
     /* To old, 11: an entry in write through, first, last, everywhere; and all seven states. */
-    {TO_OLD, {2, 4, 3}, {1, 9, 10, 11, 12, 9, 10, 11}, 11, {0}},
-    {TO_OLD, {2, 4, 3}, {2, 9, 10, 11, 12, 9, 10, 11}, 11, {0}},
-    {TO_OLD, {2, 4, 3}, {0, 0, 0, 0, 0, 0, 0, 1}, 11, {0}},
-    {TO_OLD, {2, 4, 3}, {0, 0, 0, 0, 0, 0, 0, 2}, 11, {0}},
-    {TO_OLD, {8, 1, 2}, {1, 1, 1, 1, 1, 1, 1, 1}, 11, {0}},
-    {TO_OLD, {8, 1, 2}, {2, 2, 2, 2, 2, 2, 2, 2}, 11, {0}},
-    {TO_OLD, {1, 8, 9}, {0, 1, 2, 9, 10, 11, 12, 0}, 11, {0}},
+    {TO_OLD, SHAPE(2, 4, 3), {1, 9, 10, 11, 12, 9, 10, 11}, 11, {0}},
+    {TO_OLD, SHAPE(2, 4, 3), {2, 9, 10, 11, 12, 9, 10, 11}, 11, {0}},
+    {TO_OLD, SHAPE(2, 4, 3), {0, 0, 0, 0, 0, 0, 0, 1}, 11, {0}},
+    {TO_OLD, SHAPE(2, 4, 3), {0, 0, 0, 0, 0, 0, 0, 2}, 11, {0}},
+    {TO_OLD, SHAPE(8, 1, 2), {1, 1, 1, 1, 1, 1, 1, 1}, 11, {0}},
+    {TO_OLD, SHAPE(8, 1, 2), {2, 2, 2, 2, 2, 2, 2, 2}, 11, {0}},
+    {TO_OLD, SHAPE(1, 8, 9), {0, 1, 2, 9, 10, 11, 12, 0}, 11, {0}},
     /* 10 before 11, wherever the two stand: an old set taken for a new one too. */
-    {TO_OLD, {2, 4, 3}, {1, 9, 10, 11, 12, 9, 10, 3}, 10, {0}},
-    {TO_OLD, {2, 4, 3}, {2, 9, 10, 11, 12, 9, 10, 255}, 10, {0}},
-    {TO_OLD, {2, 4, 3}, {8, 9, 10, 11, 12, 9, 10, 1}, 10, {0}},
-    {TO_OLD, {2, 4, 3}, {13, 9, 10, 11, 12, 9, 10, 2}, 10, {0}},
-    {TO_OLD, {8, 1, 2}, {1, 1, 1, 1, 1, 1, 1, 4}, 10, {0}},
-    {TO_OLD, {1, 8, 9}, {0, 1, 2, 3, 4, 1, 2, 3}, 10, {0}},
+    {TO_OLD, SHAPE(2, 4, 3), {1, 9, 10, 11, 12, 9, 10, 3}, 10, {0}},
+    {TO_OLD, SHAPE(2, 4, 3), {2, 9, 10, 11, 12, 9, 10, 255}, 10, {0}},
+    {TO_OLD, SHAPE(2, 4, 3), {8, 9, 10, 11, 12, 9, 10, 1}, 10, {0}},
+    {TO_OLD, SHAPE(2, 4, 3), {13, 9, 10, 11, 12, 9, 10, 2}, 10, {0}},
+    {TO_OLD, SHAPE(8, 1, 2), {1, 1, 1, 1, 1, 1, 1, 4}, 10, {0}},
+    {TO_OLD, SHAPE(1, 8, 9), {0, 1, 2, 3, 4, 1, 2, 3}, 10, {0}},
     /* From old there is no 11: 1 and 2 are S and E. */
-    {FROM_OLD, {4, 2, 1}, {1, 2, 0, 0, 2, 1, 1, 2}, 0, {9, 10, 0, 0, 10, 9, 9, 10}},
+    {FROM_OLD, SHAPE(4, 2, 1), {1, 2, 0, 0, 2, 1, 1, 2}, 0, {9, 10, 0, 0, 10, 9, 9, 10}},
     /* 2 before 10 and before 11, with tables of the eight entries that the numbers give, or of others. */
-    {FROM_OLD, {8, 1, 0}, {0, 1, 2, 3, 4, 1, 2, 3}, 2, {0}},
-    {FROM_OLD, {8, 1, 4097}, {0, 1, 2, 3, 4, 1, 2, 255}, 2, {0}},
-    {FROM_OLD, {9, 1, 1}, {5, 0, 0, 0, 0, 0, 0, 0}, 2, {0}},
-    {FROM_OLD, {0, 8, 1}, {5, 0, 0, 0, 0, 0, 0, 0}, 2, {0}},
-    {FROM_OLD, {8, 0, 1}, {0, 0, 0, 0, 0, 0, 0, 0}, 2, {0}},
-    {TO_OLD, {8, 1, 0}, {0, 9, 10, 11, 12, 9, 10, 11}, 2, {0}},
-    {TO_OLD, {8, 1, 4097}, {0, 0, 0, 0, 0, 0, 0, 1}, 2, {0}},
-    {TO_OLD, {9, 1, 1}, {3, 0, 0, 0, 0, 0, 0, 2}, 2, {0}},
-    {TO_OLD, {0, 8, 1}, {1, 0, 0, 0, 0, 0, 0, 0}, 2, {0}},
-    {TO_OLD, {8, 0, 1}, {255, 0, 0, 0, 0, 0, 0, 0}, 2, {0}},
+    {FROM_OLD, SHAPE(8, 1, 0), {0, 1, 2, 3, 4, 1, 2, 3}, 2, {0}},
+    {FROM_OLD, SHAPE(8, 1, 4097), {0, 1, 2, 3, 4, 1, 2, 255}, 2, {0}},
+    {FROM_OLD, SHAPE(9, 1, 1), {5, 0, 0, 0, 0, 0, 0, 0}, 2, {0}},
+    {FROM_OLD, SHAPE(0, 8, 1), {5, 0, 0, 0, 0, 0, 0, 0}, 2, {0}},
+    {FROM_OLD, SHAPE(8, 0, 1), {0, 0, 0, 0, 0, 0, 0, 0}, 2, {0}},
+    {TO_OLD, SHAPE(8, 1, 0), {0, 9, 10, 11, 12, 9, 10, 11}, 2, {0}},
+    {TO_OLD, SHAPE(8, 1, 4097), {0, 0, 0, 0, 0, 0, 0, 1}, 2, {0}},
+    {TO_OLD, SHAPE(9, 1, 1), {3, 0, 0, 0, 0, 0, 0, 2}, 2, {0}},
+    {TO_OLD, SHAPE(0, 8, 1), {1, 0, 0, 0, 0, 0, 0, 0}, 2, {0}},
+    {TO_OLD, SHAPE(8, 0, 1), {255, 0, 0, 0, 0, 0, 0, 0}, 2, {0}},
     /* 3 before 10 and before 11: tables of eight entries for shapes that have more or fewer. */
-    {FROM_OLD, {2, 2, 3}, {0, 1, 2, 3, 4, 1, 2, 3}, 3, {0}},
-    {FROM_OLD, {2, 8, 3}, {5, 0, 0, 0, 0, 0, 0, 0}, 3, {0}},
-    {FROM_OLD, {7, 1, 3}, {0, 0, 0, 0, 0, 0, 0, 255}, 3, {0}},
-    {TO_OLD, {2, 2, 3}, {0, 9, 10, 11, 12, 9, 10, 11}, 3, {0}},
-    {TO_OLD, {2, 8, 3}, {1, 0, 0, 0, 0, 0, 0, 0}, 3, {0}},
-    {TO_OLD, {7, 1, 3}, {0, 0, 0, 0, 0, 0, 0, 3}, 3, {0}},
+    {FROM_OLD, SHAPE(2, 2, 3), {0, 1, 2, 3, 4, 1, 2, 3}, 3, {0}},
+    {FROM_OLD, SHAPE(2, 8, 3), {5, 0, 0, 0, 0, 0, 0, 0}, 3, {0}},
+    {FROM_OLD, SHAPE(7, 1, 3), {0, 0, 0, 0, 0, 0, 0, 255}, 3, {0}},
+    {TO_OLD, SHAPE(2, 2, 3), {0, 9, 10, 11, 12, 9, 10, 11}, 3, {0}},
+    {TO_OLD, SHAPE(2, 8, 3), {1, 0, 0, 0, 0, 0, 0, 0}, 3, {0}},
+    {TO_OLD, SHAPE(7, 1, 3), {0, 0, 0, 0, 0, 0, 0, 3}, 3, {0}},
 };
 
 enum { EDITION_CASES = sizeof edition_list / sizeof edition_list[0] };
@@ -272,7 +272,7 @@ static int edition_cases(struct tester *tester)
 }
 
 /* Two sets of eight entries whose bytes stand for each other: the places of either are tried with other bytes. */
-static const struct second_shape eight_shape = {2, 4, 3};
+static const struct second_shape eight_shape = SHAPE(2, 4, 3);
 static const uint8_t eight_old[8] = {4, 1, 0, 2, 3, 3, 0, 1};
 static const uint8_t eight_new[8] = {12, 9, 0, 10, 11, 11, 0, 9};
 
@@ -337,7 +337,7 @@ static int edition_pairs(struct tester *tester)
 /* One byte that is refused at each place of the largest shape. */
 static int edition_places(struct tester *tester)
 {
-    static const struct second_shape largest = {8, 64, 4096};
+    static const struct second_shape largest = SHAPE(8, 64, 4096);
     static const struct {
         enum call call;
         uint8_t byte, refusal;
@@ -377,7 +377,7 @@ static int table_is_measured(struct tester *tester, enum call call, unsigned tab
         {0, 0, 1, 16, 28, 31, 33, 36, 64}, {0, 0, 1, 4, 6, 7, 9, 10, 16}, {0, 0, 1, 32, 56, 63, 65, 72, 128},
         {0, 0, 1, 16, 28, 31, 33, 36, 64}, {0, 0, 1, 4, 6, 7, 9, 10, 16}, {0, 0, 1, 32, 56, 63, 65, 72, 128},
     };
-    static const struct second_shape too_large = {2, 4, 4097};
+    static const struct second_shape too_large = SHAPE(2, 4, 4097);
 
     for (unsigned k = 0; k < 9 * 4 * 2; k++) {
         fill_set(&tester->generator, &given, 16);
@@ -432,16 +432,26 @@ static const struct {
     struct second_shape shape;
     size_t entries;
 } no_shapes[] = {
-    {{0, 1, 1}, 0},       {{1, 0, 1}, 0},     {{1, 1, 0}, 1},     {{0, 0, 0}, 0},     {{9, 1, 1}, 9},
-    {{10, 4, 1}, 40},     {{16, 1, 1}, 16},   {{2, 3, 5}, 6},     {{1, 5, 5}, 5},     {{1, 6, 5}, 6},
-    {{1, 7, 5}, 7},       {{1, 9, 5}, 9},     {{2, 12, 5}, 24},   {{1, 24, 5}, 24},   {{1, 48, 5}, 48},
-    {{1, 63, 5}, 63},     {{8, 65, 5}, 520},  {{1, 96, 5}, 96},   {{1, 128, 1}, 128}, {{4, 128, 1}, 512},
-    {{8, 64, 4097}, 512}, {{8, 64, 0}, 512},  {{9, 64, 9}, 576},  {{1, 1, 4097}, 1},  {{1, 1, 8192}, 1},
+    {SHAPE(0, 1, 1), 0},       {SHAPE(1, 0, 1), 0},       {SHAPE(1, 1, 0), 1},    {SHAPE(0, 0, 0), 0},
+    {SHAPE(9, 1, 1), 9},       {SHAPE(10, 4, 1), 40},     {SHAPE(16, 1, 1), 16},  {SHAPE(2, 3, 5), 6},
+    {SHAPE(1, 5, 5), 5},       {SHAPE(1, 6, 5), 6},       {SHAPE(1, 7, 5), 7},    {SHAPE(1, 9, 5), 9},
+    {SHAPE(2, 12, 5), 24},     {SHAPE(1, 24, 5), 24},     {SHAPE(1, 48, 5), 48},  {SHAPE(1, 63, 5), 63},
+    {SHAPE(8, 65, 5), 520},    {SHAPE(1, 96, 5), 96},     {SHAPE(1, 128, 1), 128}, {SHAPE(4, 128, 1), 512},
+    {SHAPE(8, 64, 4097), 512}, {SHAPE(8, 64, 0), 512},    {SHAPE(9, 64, 9), 576}, {SHAPE(1, 1, 4097), 1},
+    {SHAPE(1, 1, 8192), 1},
     /* Cut to fewer bits, or multiplied by sets, they would be in range. */
-    {{UINT64_C(0x100000001), 1, 1}, 1}, {{1, UINT64_C(0x100000001), 1}, 1}, {{1, 1, UINT64_C(0x100000001)}, 1},
-    {{257, 1, 1}, 1},                   {{1, 257, 1}, 1},                   {{1, 1, 65537}, 1},
-    {{(UINT64_C(1) << 63) + 1, 2, 1}, 2}, {{2, (UINT64_C(1) << 63) + 1, 1}, 2}, {{1, 1, (UINT64_C(1) << 61) + 1}, 1},
-    {{UINT64_MAX, 1, 1}, 1},            {{1, UINT64_MAX, 1}, 1},            {{1, 1, UINT64_MAX}, 1},
+    {SHAPE(UINT64_C(0x100000001), 1, 1), 1},
+    {SHAPE(1, UINT64_C(0x100000001), 1), 1},
+    {SHAPE(1, 1, UINT64_C(0x100000001)), 1},
+    {SHAPE((UINT64_C(1) << 63) + 1, 2, 1), 2},
+    {SHAPE(2, (UINT64_C(1) << 63) + 1, 1), 2},
+    {SHAPE(1, 1, (UINT64_C(1) << 61) + 1), 1},
+    {SHAPE(257, 1, 1), 1},
+    {SHAPE(1, 257, 1), 1},
+    {SHAPE(1, 1, 65537), 1},
+    {SHAPE(UINT64_MAX, 1, 1), 1},
+    {SHAPE(1, UINT64_MAX, 1), 1},
+    {SHAPE(1, 1, UINT64_MAX), 1},
 };
 
 enum { NO_SHAPES = sizeof no_shapes / sizeof no_shapes[0] };
@@ -450,7 +460,7 @@ enum { NO_SHAPES = sizeof no_shapes / sizeof no_shapes[0] };
 static int edition_shapes(struct tester *tester)
 {
     for (unsigned k = 0; k < 8 * 7 * 2; k++) {
-        struct second_shape shape = {k % 8 + 1, 1u << k / 8 % 7, k / 56 ? 4096 : 1};
+        struct second_shape shape = SHAPE(k % 8 + 1, 1u << k / 8 % 7, k / 56 ? 4096 : 1);
 
         if (!shape_gives(tester, shape, entries_of(shape), 0))
             return 0;
@@ -639,6 +649,22 @@ static void make_set(struct tester *tester, struct second_shape shape)
         settle_line(generator, line);
 }
 
+/* Has every order run in write back: all are ordered so, and no line is in the device range; or all lines are scratch,
+   whatever is ordered. */
+static void write_back_only(struct tester *tester, struct second_shape *shape)
+{
+    static const struct second_range empty = {0, 0};
+
+    if (generator_percent(&tester->generator, 50)) {
+        shape->device = empty;
+        tester->traffic.back_percent = 100;
+    } else {
+        shape->scratch.first = 0;
+        shape->scratch.count = shape->lines;
+    }
+    tester->traffic.odd_percent = 0;
+}
+
 /* A set that orders in write back lead to, converted from the tables that they leave; it comes back to these. */
 static int reach_set(struct tester *tester, struct second_shape shape)
 {
@@ -646,8 +672,7 @@ static int reach_set(struct tester *tester, struct second_shape shape)
 
     begin_traffic(tester, shape);
     traffic_fill_tables(&tester->generator, &tester->history.start);
-    tester->traffic.back_percent = 100;
-    tester->traffic.odd_percent = 0;
+    write_back_only(tester, &tester->history.start.shape);
     if (!run_history(tester, 1, generator_below(&tester->generator, 60)))
         return 0;
     take_set(pair, TAGS, &given);
@@ -798,7 +823,7 @@ static size_t set_stride(unsigned ports, uint64_t percent)
 /* Run r: sets of r + 1 ports, one set, two lines, memory 5 and 7. Two ports can break every rule alone. */
 int edition_every_set(struct tester *tester, uint64_t run)
 {
-    static const struct second_shape shape = {0, 1, 2};
+    static const struct second_shape shape = SHAPE(0, 1, 2);
     uint64_t verdicts[2] = {0}, rules[SECOND_RULES] = {0};
     unsigned ports = (unsigned)run + 1;
     size_t sets = 1, stride = set_stride(ports, tester->percent);
@@ -883,10 +908,8 @@ int edition_orders(struct tester *tester, uint64_t run)
         return report_that(tester, "a set that keeps the rules doesn't pass the audit", FROM_OLD, old.shape);
     tester->history.start = *lent_numbers(&tester->pair);
     traffic_begin(&tester->traffic, &tester->generator, old.shape);
-    if (back_only) {
-        tester->traffic.back_percent = 100;
-        tester->traffic.odd_percent = 0;
-    }
+    if (back_only)
+        write_back_only(tester, &tester->history.start.shape);
     if (!run_history(tester, 0, orders))
         return 0;
     tally->stepped += orders;

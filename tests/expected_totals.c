@@ -32,9 +32,10 @@ static size_t take(uint8_t *bytes, size_t length)
     return taken;
 }
 
+/* "Trace files carry no ranges, and both are empty there." */
 static struct second_shape said_shape(void)
 {
-    struct second_shape shape = {number_at(head, 4), number_at(head + 4, 4), number_at(head + 8, 4)};
+    struct second_shape shape = {number_at(head, 4), number_at(head + 4, 4), number_at(head + 8, 4), {0, 0}, {0, 0}};
 
     return shape;
 }
@@ -51,7 +52,7 @@ static uint64_t read_trace(void)
         return 1;
     if (take(body, 16 * (size_t)orders) < 16 * (size_t)orders)
         return 1;
-    /* The lengths are those of the shape, so that only the shape can be refused. */
+    /* The lengths are those of the shape, and the ranges are empty, so that only the shape can be refused. */
     return second_call_refusal(said_shape(), second_lengths_of(said_shape(), 0), 0);
 }
 

@@ -33,7 +33,7 @@ static size_t read_trace(void)
 
 static uint64_t refusal_of(size_t length)
 {
-    struct second_shape shape;
+    struct second_shape shape = {0, 0, 0, {0, 0}, {0, 0}};
 
     if (length < HEAD_BYTES)
         return 1;
@@ -42,13 +42,13 @@ static uint64_t refusal_of(size_t length)
     shape.ports = number_at(0, 4);
     shape.sets = number_at(4, 4);
     shape.lines = number_at(8, 4);
-    /* The lengths are those of the shape, so that only the shape can be refused. */
+    /* The lengths are those of the shape, and the ranges are empty, so that only the shape can be refused. */
     return second_call_refusal(shape, second_lengths_of(shape, 0), 0);
 }
 
 static void run(size_t orders)
 {
-    static struct second_model model;
+    static struct second_model model; /* "Trace files carry no ranges, and both are empty there." */
 
     model.shape.ports = number_at(0, 4);
     model.shape.sets = number_at(4, 4);

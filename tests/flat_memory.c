@@ -11,6 +11,21 @@ void flat_start(struct flat_memory *flat, struct second_shape shape, const uint6
     }
 }
 
+/* "Inside the scratch range every order runs write back, inside the device range write through, and elsewhere the
+   order's mode stands. The scratch range is looked up first. The flat memory and the device guarantee use the mode so
+   found." The ranges end within lines. */
+static enum second_mode mode_found(struct second_shape shape, struct second_order order)
+{
+    uint64_t scratch_end = shape.scratch.first + shape.scratch.count;
+    uint64_t device_end = shape.device.first + shape.device.count;
+
+    if (shape.scratch.count > 0 && order.line >= shape.scratch.first && order.line < scratch_end)
+        return SECOND_BACK;
+    if (shape.device.count > 0 && order.line >= shape.device.first && order.line < device_end)
+        return SECOND_THROUGH;
+    return order.mode;
+}
+
 /* "Read: value F[a]; m = 0 clears the mark." */
 static void flat_read(struct flat_memory *flat, struct second_order order, struct flat_answer *answer)
 {
@@ -54,6 +69,7 @@ struct flat_answer flat_order(struct flat_memory *flat, uint64_t word, uint64_t 
 
     if (answer.refusal != 0)
         return answer;
+    order.mode = mode_found(flat->shape, order);
     switch (order.kind) {
     case SECOND_READ:
         flat_read(flat, order, &answer);

@@ -70,6 +70,7 @@ static void check_constants(void)
     CHECK(MOESI_REFUSED_LENGTH == 3 && MOESI_REFUSED_KIND == 4 && MOESI_REFUSED_PORT == 5);
     CHECK(MOESI_REFUSED_LINE == 6 && MOESI_REFUSED_MASK == 7 && MOESI_REFUSED_ENTRY == 8);
     CHECK(MOESI_REFUSED_TOTALS == 9 && MOESI_REFUSED_STATE == 10 && MOESI_REFUSED_THROUGH == 11);
+    CHECK(MOESI_REFUSED_RANGE == 12);
     CHECK(MOESI_OLD_INVALID == 0 && MOESI_OLD_SHARED == 1 && MOESI_OLD_EXCLUSIVE == 2);
     CHECK(MOESI_OLD_OWNED == 3 && MOESI_OLD_MODIFIED == 4);
     CHECK(MOESI_KINDS == 6 && MOESI_RECORD_BYTES == 80 && MOESI_MOST_TOTAL == UINT64_C(18446744073709551613));
@@ -149,20 +150,23 @@ static void check_step_totals(void)
     uint8_t record[MOESI_RECORD_BYTES] = {0};
     struct moesi_totals totals;
 
-    CHECK(moesi_step_totals(1, 1, 1, moesi_order_swap_lower(0, 0, MOESI_WRITE_THROUGH, 0), 3, memory, 8, tags, 4,
-                            states, 1, data, 8, answer, 40, record, sizeof record) == MOESI_ACCEPTED);
+    CHECK(moesi_step_totals(1, 1, 1, 0, 0, 0, 0, moesi_order_swap_lower(0, 0, MOESI_WRITE_THROUGH, 0), 3, memory, 8,
+                            tags, 4, states, 1, data, 8, answer, 40, record, sizeof record) == MOESI_ACCEPTED);
     totals = moesi_read_totals(record);
     CHECK(totals.accepted[MOESI_SWAP] == 1 && totals.swaps == 1 && totals.refused == 0);
     CHECK(totals.memory_reads == 1 && totals.memory_writes == 1 && moesi_get_word(memory, 0) == 3);
-    CHECK(moesi_step_totals(1, 1, 1, 7, 0, memory, 8, tags, 4, states, 1, data, 8, answer, 40, record,
+    CHECK(moesi_step_totals(1, 1, 1, 0, 0, 0, 0, 7, 0, memory, 8, tags, 4, states, 1, data, 8, answer, 40, record,
                             sizeof record) == MOESI_REFUSED_KIND);
     CHECK(moesi_read_totals(record).refused == 1);
-    CHECK(moesi_step_totals(1, 1, 1, 7, 0, memory, 8, tags, 4, states, 1, data, 8, answer, 40, NULL, 0) ==
+    CHECK(moesi_step_totals(1, 1, 1, 0, 0, 0, 2, 7, 0, memory, 8, tags, 4, states, 1, data, 8, answer, 40, record,
+                            sizeof record) == MOESI_REFUSED_RANGE);
+    CHECK(moesi_read_totals(record).refused == 2);
+    CHECK(moesi_step_totals(1, 1, 1, 0, 0, 0, 2, 7, 0, memory, 8, tags, 4, states, 1, data, 8, answer, 40, NULL, 0) ==
           MOESI_REFUSED_LENGTH);
     moesi_put_word(record, MOESI_TOTAL_WRITES, MOESI_MOST_TOTAL + 1);
-    CHECK(moesi_step_totals(0, 0, 0, 0, 0, NULL, 0, NULL, 0, NULL, 0, NULL, 0, answer, 40, record, sizeof record) ==
-          MOESI_REFUSED_TOTALS);
-    CHECK(moesi_read_answer(answer).refusal == MOESI_REFUSED_TOTALS && moesi_read_totals(record).refused == 1);
+    CHECK(moesi_step_totals(0, 0, 0, 1, 1, 1, 1, 0, 0, NULL, 0, NULL, 0, NULL, 0, NULL, 0, answer, 40, record,
+                            sizeof record) == MOESI_REFUSED_TOTALS);
+    CHECK(moesi_read_answer(answer).refusal == MOESI_REFUSED_TOTALS && moesi_read_totals(record).refused == 2);
 }
 
 /* The three calls on the smallest shape: the names link, and an answer is read. */
@@ -172,22 +176,52 @@ static void check_calls(void)
     struct moesi_answer read;
 
     moesi_put_word(memory, 0, 99);
-    CHECK(moesi_fresh(1, 1, 1, memory, 8, tags, 4, states, 1, data, 8) == MOESI_ACCEPTED);
-    CHECK(moesi_step(1, 1, 1, moesi_order_read(0, 0, MOESI_WRITE_BACK), 0, memory, 8, tags, 4, states, 1, data, 8,
-                     answer, 40) == MOESI_ACCEPTED);
+    CHECK(moesi_fresh(1, 1, 1, 0, 0, 0, 0, memory, 8, tags, 4, states, 1, data, 8) == MOESI_ACCEPTED);
+    CHECK(moesi_step(1, 1, 1, 0, 0, 0, 0, moesi_order_read(0, 0, MOESI_WRITE_BACK), 0, memory, 8, tags, 4, states, 1,
+                     data, 8, answer, 40) == MOESI_ACCEPTED);
     read = moesi_read_answer(answer);
     CHECK(read.refusal == 0 && read.value == 99 && read.swapped == 0);
     CHECK(read.memory_reads == 1 && read.memory_writes == 0);
     CHECK(states[0] == MOESI_BACK_EXCLUSIVE && moesi_get_word(data, 0) == 99);
-    CHECK(moesi_step(1, 1, 1, moesi_order_device_write(0, 0x02), 0x1234, memory, 8, tags, 4, states, 1, data, 8,
-                     answer, 40) == MOESI_ACCEPTED);
+    CHECK(moesi_step(1, 1, 1, 0, 0, 0, 0, moesi_order_device_write(0, 0x02), 0x1234, memory, 8, tags, 4, states, 1,
+                     data, 8, answer, 40) == MOESI_ACCEPTED);
     read = moesi_read_answer(answer);
     CHECK(read.refusal == 0 && read.value == 0 && read.swapped == 0);
     CHECK(read.memory_reads == 1 && read.memory_writes == 1);
     CHECK(states[0] == MOESI_INVALID && moesi_get_word(data, 0) == 99 && moesi_get_word(memory, 0) == 0x1263);
-    CHECK(moesi_audit(1, 1, 1, memory, 8, tags, 4, states, 1, data, 8, verdict, 1) == MOESI_ACCEPTED);
+    CHECK(moesi_audit(1, 1, 1, 0, 0, 0, 0, memory, 8, tags, 4, states, 1, data, 8, verdict, 1) == MOESI_ACCEPTED);
     CHECK(verdict[0] == 1);
-    CHECK(moesi_audit(1, 1, 1, NULL, 0, NULL, 0, NULL, 0, NULL, 0, NULL, 0) == MOESI_REFUSED_LENGTH);
+    CHECK(moesi_audit(1, 1, 1, 0, 0, 0, 0, NULL, 0, NULL, 0, NULL, 0, NULL, 0, NULL, 0) == MOESI_REFUSED_LENGTH);
+}
+
+/* The state byte that a read leaves on the smallest shape under ranges; the refusal, negative, if it is refused. */
+static int read_under(uint64_t scratch_first, uint64_t scratch_count, uint64_t device_first, uint64_t device_count,
+                      uint64_t mode)
+{
+    uint8_t memory[8] = {0}, tags[4] = {0}, states[1] = {0}, data[8] = {0}, answer[40], verdict[1] = {7};
+    uint64_t fresh = moesi_fresh(1, 1, 1, scratch_first, scratch_count, device_first, device_count, memory, 8, tags, 4,
+                                 states, 1, data, 8);
+    uint64_t step = moesi_step(1, 1, 1, scratch_first, scratch_count, device_first, device_count,
+                               moesi_order_read(0, 0, mode), 0, memory, 8, tags, 4, states, 1, data, 8, answer, 40);
+    uint64_t audit = moesi_audit(1, 1, 1, scratch_first, scratch_count, device_first, device_count, memory, 8, tags, 4,
+                                 states, 1, data, 8, verdict, 1);
+
+    CHECK(fresh == step && audit == step && verdict[0] == (step == MOESI_ACCEPTED));
+    return step == MOESI_ACCEPTED ? states[0] : -(int)step;
+}
+
+/* The ranges of the calls: scratch before the device range, each by its first line and its count. */
+static void check_ranges(void)
+{
+    CHECK(read_under(0, 0, 0, 0, MOESI_WRITE_BACK) == 10 && read_under(0, 0, 0, 0, MOESI_WRITE_THROUGH) == 2);
+    CHECK(read_under(0, 1, 0, 0, MOESI_WRITE_BACK) == 10 && read_under(0, 1, 0, 0, MOESI_WRITE_THROUGH) == 10);
+    CHECK(read_under(0, 0, 0, 1, MOESI_WRITE_BACK) == 2 && read_under(0, 0, 0, 1, MOESI_WRITE_THROUGH) == 2);
+    CHECK(read_under(0, 1, 0, 1, MOESI_WRITE_BACK) == 10 && read_under(0, 1, 0, 1, MOESI_WRITE_THROUGH) == 10);
+    CHECK(read_under(1, 0, UINT64_MAX, 0, MOESI_WRITE_THROUGH) == 2);
+    CHECK(read_under(1, 1, 0, 0, MOESI_WRITE_BACK) == -12 && read_under(0, 0, 1, 1, MOESI_WRITE_BACK) == -12);
+    CHECK(read_under(0, 2, 0, 0, MOESI_WRITE_BACK) == -12 && read_under(0, 0, 0, 2, MOESI_WRITE_BACK) == -12);
+    CHECK(read_under(UINT64_MAX, 1, 0, 0, MOESI_WRITE_BACK) == -12);
+    CHECK(read_under(0, 0, UINT64_C(1) << 63, UINT64_C(1) << 63, MOESI_WRITE_BACK) == -12);
 }
 
 /* The conversions on the smallest shape: the names link, and each of their refusals is given. */
@@ -224,6 +258,7 @@ int main(void)
     check_answer();
     check_totals();
     check_calls();
+    check_ranges();
     check_step_totals();
     check_conversions();
     return failures == 0 ? 0 : 1;

@@ -20,12 +20,12 @@ void history_close(struct history *history)
     free(history->orders);
 }
 
-/* The audit in a history: from a fresh start it must say yes. */
+/* The audit in a history: from a fresh start it must say yes, unless it is refused for a range. */
 static int audit(const struct history *history, struct pair *pair)
 {
     if (!pair_audit(pair))
         return 0;
-    if (history->fresh && pair_verdict(pair) != 1) {
+    if (history->fresh && pair->returned == 0 && pair_verdict(pair) != 1) {
         snprintf(pair->difference, sizeof pair->difference, "  the audit of a history from a fresh start says no\n");
         return 0;
     }
@@ -46,6 +46,9 @@ int history_begin(struct history *history, struct pair *pair)
 {
     history->count = 0;
     history->chosen = 0;
+    history->ranges = 0;
+    history->scratch[0] = history->start.shape.scratch;
+    history->device[0] = history->start.shape.device;
     pair->second = history->start;
     pair_lend(pair, history->skew);
     if (history->totals)
@@ -54,6 +57,17 @@ int history_begin(struct history *history, struct pair *pair)
         return audit(history, pair);
     flat_start(&history->flat, history->start.shape, history->start.memory);
     return pair_fresh(pair) && audit(history, pair);
+}
+
+void history_under(struct history *history, struct pair *pair, unsigned ranges)
+{
+    struct second_shape *shape = &pair->second.shape;
+
+    pair->tally.changed_ranges += ranges != history->ranges;
+    history->ranges = ranges;
+    shape->scratch = history->scratch[ranges];
+    shape->device = history->device[ranges];
+    history->flat.shape = *shape;
 }
 
 static void say_flat_differs(struct pair *pair, const char *what, uint64_t flat, uint64_t model)
@@ -128,9 +142,39 @@ static void count_store(struct pair *pair, struct second_order order, struct sec
         tally->same_refused[pair->expected.refusal] += !changed;
         return;
     }
-    tally->stores[fresh][state][met.others][order.mode][swap][changed]++;
+    tally->stores[fresh][state][met.others][second_mode_in_force(pair->second.shape, order)][swap][changed]++;
     if (!changed)
         tally->same_masks[order.mask == 0x00 ? 0 : order.mask == 0xFF ? 1 : 2]++;
+}
+
+/* Counts an accepted access to a line by where the line lies to a range. */
+static void count_edge(struct tally *tally, int device, struct second_range range, uint64_t line)
+{
+    if (range.count == 0)
+        return;
+    tally->edges[device][0] += line + 1 == range.first;
+    tally->edges[device][1] += line == range.first;
+    tally->edges[device][2] += line + 1 == range.first + range.count;
+    tally->edges[device][3] += line == range.first + range.count;
+}
+
+/* Which ranges have a line. */
+static unsigned place_of(const struct second_shape *shape, uint64_t line)
+{
+    return (second_has_line(shape->scratch, line) ? IN_SCRATCH : 0) |
+           (second_has_line(shape->device, line) ? IN_DEVICE : 0);
+}
+
+/* Counts an accepted access by the ranges that have its line. */
+static void count_ranged(struct pair *pair, struct second_order order, int fresh)
+{
+    const struct second_shape *shape = &pair->second.shape;
+
+    if (order.kind > SECOND_SWAP)
+        return;
+    pair->tally.ranged[fresh][place_of(shape, order.line)][order.mode][order.kind]++;
+    count_edge(&pair->tally, 0, shape->scratch, order.line);
+    count_edge(&pair->tally, 1, shape->device, order.line);
 }
 
 /* Holds the answer of the step just made against the flat memory's. */
@@ -140,6 +184,9 @@ static int agrees_with_flat(struct history *history, struct pair *pair, struct h
     struct second_answer model = pair->expected;
 
     if (flat.refusal == 0 && (order.word & 7) == SECOND_DEVICE_READ) {
+        unsigned place = place_of(&pair->second.shape, order.word >> 16 & 65535);
+
+        pair->tally.device_range_reads += flat.compared_value != 0 && place == IN_DEVICE;
         pair->tally.devices_compared += flat.compared_value != 0;
         pair->tally.devices_not_compared += flat.compared_value == 0;
     }
@@ -156,7 +203,7 @@ static int agrees_with_flat(struct history *history, struct pair *pair, struct h
 
 int history_add(struct history *history, struct pair *pair, uint64_t word, uint64_t operand)
 {
-    struct history_order order = {word, operand};
+    struct history_order order = {word, operand, history->ranges};
     struct second_order fields = second_take_apart(word, operand);
     unsigned holders = second_holders(&pair->second, fields.line);
     struct second_met met = met_by(pair, fields);
@@ -169,13 +216,16 @@ int history_add(struct history *history, struct pair *pair, uint64_t word, uint6
     history->given = second_decode_answer(pair->slices[RESULT].bytes);
     if (history->totals && !totals_are_sums(history, pair, word))
         return 0;
-    /* An order refused 9 changes nothing, so that the flat memory is not fed it. */
-    if (history->fresh && pair->expected.refusal != 9 && !agrees_with_flat(history, pair, order))
+    /* An order refused 9 or 12 changes nothing, so that the flat memory is not fed it. */
+    if (history->fresh && pair->expected.refusal != 9 && pair->expected.refusal != 12 &&
+        !agrees_with_flat(history, pair, order))
         return 0;
     if (history->fresh && pair->expected.refusal == 0 && (word & 7) == SECOND_DEVICE_WRITE)
         count_device_write(pair, order, holders);
     if (!history->chosen)
         count_store(pair, fields, met, history->fresh);
+    if (!history->chosen && pair->expected.refusal == 0)
+        count_ranged(pair, fields, history->fresh);
     return history->count % history->audit_every != 0 || audit(history, pair);
 }
 
@@ -192,6 +242,7 @@ static int replay_fails(struct history *history, struct pair *pair, const struct
     if (!history_begin(history, pair))
         return 1;
     while (k < count) {
+        history_under(history, pair, orders[k].ranges);
         if (!history_add(history, pair, orders[k].word, orders[k].operand))
             return 1;
         k++;
@@ -271,6 +322,12 @@ static void print_order(const struct history *history, size_t k)
            order.mode == SECOND_BACK ? "back" : "through", order.mask, (unsigned)order.compare);
 }
 
+static void print_ranges(struct second_range scratch, struct second_range device)
+{
+    printf("  scratch %" PRIu64 " %" PRIu64 ", device %" PRIu64 " %" PRIu64 "\n", scratch.first, scratch.count,
+           device.first, device.count);
+}
+
 static void print_start(const struct history *history)
 {
     const struct second_model *start = &history->start;
@@ -278,6 +335,7 @@ static void print_start(const struct history *history)
 
     printf("  shape %" PRIu64 " %" PRIu64 " %" PRIu64 ", %s start\n", start->shape.ports, start->shape.sets,
            start->shape.lines, history->fresh ? "fresh" : "given");
+    print_ranges(start->shape.scratch, start->shape.device);
     for (unsigned place = 0; place < SECOND_TOTALS && history->totals; place++)
         printf("%s%" PRIu64 "%s", place == 0 ? "  record " : " ", history->totals_start[place],
                place + 1 == SECOND_TOTALS ? "\n" : "");
@@ -302,8 +360,13 @@ void history_print(const struct history *history, const struct pair *pair)
     print_start(history);
     if (first > 0)
         printf("  orders 1 to %zu are not shown\n", first);
-    for (size_t k = first; k < shown; k++)
+    for (size_t k = first; k < shown; k++) {
+        unsigned ranges = history->orders[k].ranges;
+
+        if (ranges != (k > 0 ? history->orders[k - 1].ranges : 0))
+            print_ranges(history->scratch[ranges], history->device[ranges]);
         print_order(history, k);
+    }
     if (shown > 0 && pair->slices[RESULT].length == SECOND_ANSWER_BYTES) {
         print_answer("expected", pair->expected);
         print_answer("got     ", second_decode_answer(pair->slices[RESULT].bytes));

@@ -9,7 +9,11 @@
 struct history_order {
     uint64_t word;
     uint64_t operand;
+    unsigned ranges; /* the number of the history's ranges under which it is carried out */
 };
+
+/* Ranges that a history may change between: number 0 are those of the start. */
+enum { HISTORY_RANGES = 8 };
 
 struct history {
     struct second_model start;
@@ -20,6 +24,9 @@ struct history {
     uint64_t totals_start[SECOND_TOTALS];
     uint64_t totals_due[SECOND_TOTALS]; /* those and the sums over the library's answers */
     struct second_answer given;         /* the library's answer to the last order */
+    struct second_range scratch[HISTORY_RANGES];
+    struct second_range device[HISTORY_RANGES];
+    unsigned ranges; /* the number of those that stand */
     uint64_t audit_every;
     size_t count;
     size_t room;
@@ -30,8 +37,11 @@ struct history {
 int history_open(struct history *history, size_t room);
 void history_close(struct history *history);
 
-/* Starts a history from history->start, with no orders yet; 1 if all is as expected. */
+/* Starts a history from history->start, with no orders yet, under the ranges of its shape; 1 if all is as expected. */
 int history_begin(struct history *history, struct pair *pair);
+
+/* Has other ranges of the history stand for the orders that come. */
+void history_under(struct history *history, struct pair *pair, unsigned ranges);
 
 /* Adds an order and carries it out; 1 if all is as expected. */
 int history_add(struct history *history, struct pair *pair, uint64_t word, uint64_t operand);

@@ -13,6 +13,12 @@ struct shape {
     uint64_t ports, sets, lines;
 };
 
+struct ranges {
+    uint64_t scratch_first, scratch_count, device_first, device_count;
+};
+
+static const struct ranges no_ranges = {0, 0, 0, 0};
+
 static const struct shape shapes[] = {
     {1, 1, 1},  {8, 1, 1}, {1, 64, 1},   {2, 1, 2},  {1, 1, 4096},  {3, 8, 5},
     {2, 4, 16}, {4, 2, 7}, {5, 16, 100}, {8, 64, 9}, {7, 32, 1000}, {8, 64, 4096},
@@ -50,9 +56,10 @@ static void check_at(int line, int holds, const char *what)
 #define CHECK(condition) check_at(__LINE__, (condition) ? 1 : 0, #condition)
 
 /* What has come up, so that no check is passed by looking at nothing. */
-static unsigned refusals_seen[9], states_seen[256], swaps_seen, clean_seen, dirty_seen, passed_seen, failed_seen;
+static unsigned refusals_seen[13], states_seen[256], swaps_seen, clean_seen, dirty_seen, passed_seen, failed_seen;
 static unsigned device_writes_seen, counted_seen[10], full_seen, other_length_seen;
 static unsigned from_old_seen[12], to_old_seen[12], converted_passed_seen, converted_failed_seen;
+static unsigned setters_seen[13], ranged_seen[4];
 
 /* Lent bytes, with guard bytes before and after them. */
 struct lent {
@@ -108,6 +115,7 @@ static void fill_with_bytes(uint8_t *bytes, size_t len)
 /* One model twice: the struct over lent bytes, and memory and tables of their own for the three calls. */
 struct both {
     struct shape shape;
+    struct ranges ranges; /* as the struct is to have them */
     struct lent memory_lent, room_lent;
     struct moesi_model m;
     size_t entries;
@@ -137,13 +145,14 @@ static int mark(uint8_t *marks, const struct both *both, const uint8_t *table, s
     return 1;
 }
 
-/* The tables lie in the room, have their sizes and share no byte. */
+/* The tables lie in the room, have their sizes and share no byte; the ranges are empty. */
 static void check_cut(const struct both *both)
 {
     uint8_t marks[MOST_ROOM] = {0};
     const struct moesi_model *m = &both->m;
 
     CHECK(m->ports == both->shape.ports && m->sets == both->shape.sets && m->lines == both->shape.lines);
+    CHECK(m->scratch_first == 0 && m->scratch_count == 0 && m->device_first == 0 && m->device_count == 0);
     CHECK(m->memory == both->memory_lent.bytes + GUARD && m->sizes.memory == memory_bytes(both->shape));
     CHECK(m->sizes.tags == 4 * both->entries && m->sizes.states == both->entries && m->sizes.data == 8 * both->entries);
     CHECK(mark(marks, both, m->tags, 4 * both->entries));
@@ -156,6 +165,7 @@ static void lend_both(struct both *both, struct shape shape)
 {
     now = shape;
     both->shape = shape;
+    both->ranges = no_ranges;
     both->entries = (size_t)(shape.ports * shape.sets);
     fill_with_words(lend(&both->memory_lent, memory_bytes(shape)), memory_bytes(shape));
     fill_with_bytes(lend(&both->room_lent, room_bytes(shape)), room_bytes(shape));
@@ -163,13 +173,30 @@ static void lend_both(struct both *both, struct shape shape)
     memset(&both->m, 0x5A, sizeof both->m);
 }
 
+/* Whether a range has lines and ends beyond the last. */
+static int ends_beyond(uint64_t first, uint64_t count, uint64_t lines)
+{
+    return count > lines || (count > 0 && first > lines - count);
+}
+
+/* What the setters and the refusal are to give under ranges. */
+static uint64_t refusal_under(struct shape shape, struct ranges ranges)
+{
+    return ends_beyond(ranges.scratch_first, ranges.scratch_count, shape.lines) ||
+                   ends_beyond(ranges.device_first, ranges.device_count, shape.lines)
+               ? MOESI_REFUSED_RANGE
+               : MOESI_ACCEPTED;
+}
+
 /* The verdict of moesi_audit on the tables laid out here. */
 static int passes(const struct both *both)
 {
     uint8_t verdict = 7;
 
-    moesi_audit(both->shape.ports, both->shape.sets, both->shape.lines, both->memory, memory_bytes(both->shape),
-                both->tags, 4 * both->entries, both->states, both->entries, both->data, 8 * both->entries, &verdict, 1);
+    moesi_audit(both->shape.ports, both->shape.sets, both->shape.lines, both->ranges.scratch_first,
+                both->ranges.scratch_count, both->ranges.device_first, both->ranges.device_count, both->memory,
+                memory_bytes(both->shape), both->tags, 4 * both->entries, both->states, both->entries, both->data,
+                8 * both->entries, &verdict, 1);
     return verdict;
 }
 
@@ -184,7 +211,8 @@ static void compare(const struct both *both)
     CHECK(memcmp(both->m.data, both->data, 8 * both->entries) == 0);
     CHECK(moesi_model_passes(&both->m) == verdict);
     CHECK(unharmed(&both->memory_lent) && unharmed(&both->room_lent));
-    *(verdict ? &passed_seen : &failed_seen) += 1;
+    if (refusal_under(both->shape, both->ranges) == MOESI_ACCEPTED)
+        *(verdict ? &passed_seen : &failed_seen) += 1;
 }
 
 /* A fresh model both ways. Init is to clear the room and nothing else. */
@@ -197,7 +225,7 @@ static void start(struct both *both, struct shape shape)
     check_cut(both);
     if (failures)
         return;
-    CHECK(moesi_fresh(shape.ports, shape.sets, shape.lines, both->memory, memory_bytes(shape), both->tags,
+    CHECK(moesi_fresh(shape.ports, shape.sets, shape.lines, 0, 0, 0, 0, both->memory, memory_bytes(shape), both->tags,
                       4 * both->entries, both->states, both->entries, both->data, 8 * both->entries) == 0);
     compare(both);
 }
@@ -207,9 +235,11 @@ static struct moesi_answer step(struct both *both, struct moesi_model *m, uint64
 {
     uint8_t bytes[40];
     struct moesi_answer answer = moesi_model_step(m, word, operand);
-    uint64_t refusal = moesi_step(both->shape.ports, both->shape.sets, both->shape.lines, word, operand, both->memory,
-                                  memory_bytes(both->shape), both->tags, 4 * both->entries, both->states, both->entries,
-                                  both->data, 8 * both->entries, bytes, sizeof bytes);
+    uint64_t refusal =
+        moesi_step(both->shape.ports, both->shape.sets, both->shape.lines, both->ranges.scratch_first,
+                   both->ranges.scratch_count, both->ranges.device_first, both->ranges.device_count, word, operand,
+                   both->memory, memory_bytes(both->shape), both->tags, 4 * both->entries, both->states, both->entries,
+                   both->data, 8 * both->entries, bytes, sizeof bytes);
 
     CHECK(answer.refusal == refusal && answer.refusal == moesi_get_word(bytes, 0));
     CHECK(answer.value == moesi_get_word(bytes, 1));
@@ -217,9 +247,57 @@ static struct moesi_answer step(struct both *both, struct moesi_model *m, uint64
     CHECK(answer.memory_reads == moesi_get_word(bytes, 3));
     CHECK(answer.memory_writes == moesi_get_word(bytes, 4));
     compare(both);
-    refusals_seen[refusal < 9 ? refusal : 0]++;
+    refusals_seen[refusal < 13 ? refusal : 0]++;
     swaps_seen += (unsigned)answer.swapped;
     return answer;
+}
+
+static int has_ranges(const struct moesi_model *m, struct ranges ranges)
+{
+    return m->scratch_first == ranges.scratch_first && m->scratch_count == ranges.scratch_count &&
+           m->device_first == ranges.device_first && m->device_count == ranges.device_count;
+}
+
+/* Asks for the refusal, which changes neither the struct nor a lent byte. */
+static void check_refusal(struct both *both, uint64_t due)
+{
+    struct moesi_model before = both->m;
+
+    CHECK(moesi_model_refusal(&both->m) == due);
+    CHECK(memcmp(&before, &both->m, sizeof before) == 0);
+    compare(both);
+}
+
+/* Sets one range, whatever it is; the other stays, and so do memory and tables. */
+static void set_range(struct both *both, int device, uint64_t first, uint64_t count)
+{
+    struct ranges *ranges = &both->ranges;
+    struct moesi_model before = both->m;
+    uint64_t refusal = (device ? moesi_model_set_device : moesi_model_set_scratch)(&both->m, first, count);
+
+    *(device ? &ranges->device_first : &ranges->scratch_first) = first;
+    *(device ? &ranges->device_count : &ranges->scratch_count) = count;
+    CHECK(refusal == refusal_under(both->shape, *ranges) && has_ranges(&both->m, *ranges));
+    CHECK(both->m.memory == before.memory && both->m.tags == before.tags && both->m.states == before.states);
+    CHECK(both->m.data == before.data && both->m.ports == before.ports && both->m.sets == before.sets);
+    CHECK(both->m.lines == before.lines);
+    check_refusal(both, refusal_under(both->shape, *ranges));
+    setters_seen[refusal < 13 ? refusal : 0]++;
+}
+
+/* Sets both ranges within lines; either may be empty. */
+static void set_some_ranges(struct both *both)
+{
+    uint64_t lines = both->shape.lines;
+
+    for (int device = 0; device < 2; device++) {
+        uint64_t first = generator_below(&generator, lines);
+        uint64_t count = 1 + generator_below(&generator, lines - first);
+
+        if (generator_percent(&generator, 30))
+            count = 0;
+        set_range(both, device, count == 0 && generator_percent(&generator, 50) ? UINT64_MAX : first, count);
+    }
 }
 
 /* A record twice: as it is lent to the struct, between guard bytes, and as it is lent to the call. */
@@ -255,10 +333,12 @@ static struct moesi_answer step_totals(struct both *both, struct moesi_model *m,
     size_t len = records->len;
     struct moesi_answer answer =
         moesi_model_step_totals(m, word, operand, len > 0 ? records->lent + GUARD : NULL, len);
-    uint64_t refusal = moesi_step_totals(both->shape.ports, both->shape.sets, both->shape.lines, word, operand,
-                                         both->memory, memory_bytes(both->shape), both->tags, 4 * both->entries,
-                                         both->states, both->entries, both->data, 8 * both->entries, bytes,
-                                         sizeof bytes, records->own, len);
+    uint64_t refusal =
+        moesi_step_totals(both->shape.ports, both->shape.sets, both->shape.lines, both->ranges.scratch_first,
+                          both->ranges.scratch_count, both->ranges.device_first, both->ranges.device_count, word,
+                          operand, both->memory, memory_bytes(both->shape), both->tags, 4 * both->entries,
+                          both->states, both->entries, both->data, 8 * both->entries, bytes, sizeof bytes,
+                          records->own, len);
 
     CHECK(answer.refusal == refusal && answer.refusal == moesi_get_word(bytes, 0));
     CHECK(answer.value == moesi_get_word(bytes, 1) && answer.swapped == moesi_get_word(bytes, 2));
@@ -533,22 +613,26 @@ static void check_lists(void)
     run_list(stores, sizeof stores / sizeof stores[0]);
 }
 
-/* Many orders at each shape, and looks between them: every model passes the audit, and every state comes up. */
+/* Many orders at each shape, under one range after another, and looks between them: every model passes the audit, and
+   every state comes up. */
 static void check_orders(void)
 {
     static const uint8_t state_bytes[] = {0, 1, 2, 9, 10, 11, 12};
+    unsigned failed_before = failed_seen;
 
     for (unsigned s = 0; s < SHAPES && !failures; s++) {
         start(&first, shapes[s]);
         for (unsigned k = 0; k < 20000 && !failures; k++) {
             if (k % 200 == 0)
                 look(&first, &first.m);
+            if (k % 500 == 250)
+                set_some_ranges(&first);
             random_step(&first, &first.m);
         }
     }
     for (size_t k = 0; k < sizeof state_bytes && !failures; k++)
         CHECK(states_seen[state_bytes[k]] > 100);
-    CHECK(failed_seen == 0);
+    CHECK(failed_seen == failed_before);
 }
 
 /* Tables that no order leaves: random bytes, or tags of lines that there are or nearly are, with any states. */
@@ -680,15 +764,15 @@ static void run_with_odd_records(struct both *both)
     }
 }
 
-/* The names of a record's numbers, of the old edition's bytes and of the conversions' refusals; those of a record's
-   places are looked at with the totals. */
+/* The names of a record's numbers, of the old edition's bytes and of the later refusals; those of a record's places are
+   looked at with the totals. */
 static void check_names(void)
 {
     CHECK(MOESI_KINDS == 6 && MOESI_RECORD_BYTES == 80 && MOESI_REFUSED_TOTALS == 9);
     CHECK(MOESI_MOST_TOTAL == UINT64_C(0xFFFFFFFFFFFFFFFD));
     CHECK(MOESI_OLD_INVALID == 0 && MOESI_OLD_SHARED == 1 && MOESI_OLD_EXCLUSIVE == 2);
     CHECK(MOESI_OLD_OWNED == 3 && MOESI_OLD_MODIFIED == 4);
-    CHECK(MOESI_REFUSED_STATE == 10 && MOESI_REFUSED_THROUGH == 11);
+    CHECK(MOESI_REFUSED_STATE == 10 && MOESI_REFUSED_THROUGH == 11 && MOESI_REFUSED_RANGE == 12);
 }
 
 /* Steps with a record through the struct. */
@@ -696,6 +780,8 @@ static void check_totals(void)
 {
     for (unsigned s = 0; s < SHAPES && !failures; s++) {
         start(&first, shapes[s]);
+        if (s % 2)
+            set_some_ranges(&first);
         run_with_record(&first);
         run_with_odd_records(&first);
     }
@@ -950,7 +1036,158 @@ static void check_old_list(void)
     CHECK(m->states[0] == MOESI_OLD_OWNED && m->states[1] == MOESI_BACK_EXCLUSIVE);
 }
 
-/* A copy of the struct is the same model; a second model, over memory and a room of its own, is another one. */
+/* Sixteen lines under ranges with four numbers of their own: lines 3 to 6 are scratch, 8 to 12 the device's. */
+static const struct shape ranged_shape = {2, 4, 16};
+static const struct ranges ranged = {3, 4, 8, 5};
+static const char ranged_modes[] = "ooobbbbotttttooo";
+
+static void set_ranges(struct both *both, struct ranges ranges)
+{
+    set_range(both, 0, ranges.scratch_first, ranges.scratch_count);
+    set_range(both, 1, ranges.device_first, ranges.device_count);
+}
+
+/* Each line is read and written by an order of either mode, with a record and without: what it leaves is of the mode
+   that the ranges say, and in the device range every word is in memory at once. */
+static void check_modes(int with_record)
+{
+    static struct records records;
+    const uint64_t zeros[10] = {0};
+
+    for (unsigned k = 0; k < 4 * 16 && !failures; k++) {
+        uint64_t line = k / 4, mode = k % 2, kind = k / 2 % 2;
+        int back = ranged_modes[line] == 'o' ? (int)mode : ranged_modes[line] == 'b';
+        uint64_t word = moesi_order_word(kind, mode, 1, line, 0xFF, 0), operand = UINT64_C(0xABCD0000) + k;
+
+        start(&first, ranged_shape);
+        set_ranges(&first, ranged);
+        lend_records(&records, zeros, MOESI_RECORD_BYTES);
+        if (with_record)
+            step_totals(&first, &first.m, word, operand, &records);
+        else
+            step(&first, &first.m, word, operand);
+        CHECK(moesi_model_state(&first.m, 1, line) == (!back ? 2 : kind == MOESI_WRITE ? 12 : 10));
+        CHECK(moesi_model_clean(&first.m, line) == (kind == MOESI_READ || !back));
+        ranged_seen[2 * with_record + back]++;
+    }
+}
+
+/* In the device range a line is clean after any orders, and with no flush a device reads it right. */
+static void check_device_range(void)
+{
+    start(&first, ranged_shape);
+    set_ranges(&first, ranged);
+    for (unsigned k = 0; k < 3000 && !failures; k++) {
+        uint64_t line = 8 + k % 5;
+        uint64_t word = moesi_order_word(generator_below(&generator, 6), 1, k % 2, line, 0x0F, 0);
+
+        step(&first, &first.m, word, random_word());
+        random_step(&first, &first.m);
+        CHECK(moesi_model_clean(&first.m, line) == 1);
+        CHECK(step(&first, &first.m, moesi_order_device_read(line), 0).value == moesi_model_word(&first.m, line));
+    }
+}
+
+/* Ranges that end beyond lines, and such as don't. */
+static struct ranges refused_ranges(unsigned k, uint64_t lines)
+{
+    const uint64_t numbers[][2] = {
+        {lines, 1}, {0, lines + 1}, {lines - 1, 2}, {UINT64_MAX, 1}, {UINT64_C(1) << 63, UINT64_C(1) << 63},
+        {UINT64_MAX, 2}, {1, UINT64_MAX}, {lines + 1, 1}, {UINT64_C(0x100000000), 1},
+    };
+    const uint64_t *beyond = numbers[k % 9];
+    struct ranges ranges = {lines + 5, 0, 0, lines};
+
+    if (k / 9 % 3 != 1) {
+        ranges.scratch_first = beyond[0];
+        ranges.scratch_count = beyond[1];
+    }
+    if (k / 9 % 3 != 0) {
+        ranges.device_first = beyond[0];
+        ranges.device_count = beyond[1];
+    }
+    return ranges;
+}
+
+/* A range that is refused is set all the same: every order is then answered 12 and changes nothing, also with a record,
+   where it is counted; the audit says no. Conversions take no ranges. */
+static void check_under_refused(struct both *both)
+{
+    static struct records records;
+    uint64_t due[10] = {0};
+
+    lend_records(&records, due, MOESI_RECORD_BYTES);
+    for (unsigned k = 0; k < 12 && !failures; k++) {
+        uint64_t word = k < 8 ? k | 0xF00 : random_order(both->shape);
+        struct moesi_answer answer = step(both, &both->m, word, 5), counted;
+
+        CHECK(answer.refusal == 12 && answer.value == 0 && answer.swapped == 0);
+        CHECK(answer.memory_reads == 0 && answer.memory_writes == 0);
+        counted = step_totals(both, &both->m, word, 5, &records);
+        CHECK(memcmp(&answer, &counted, sizeof answer) == 0);
+        due[6]++;
+        check_totals_are(&records, due);
+    }
+    CHECK(moesi_model_passes(&both->m) == 0);
+    lend_old_set(&old, both, 0);
+    CHECK(from_old(both, &old, fitting) == MOESI_ACCEPTED && to_old(both, &old_again, fitting) == MOESI_ACCEPTED);
+}
+
+static void check_refused_ranges(void)
+{
+    for (unsigned run = 0; run < 27 * SHAPES && !failures; run++) {
+        struct shape shape = shapes[run % SHAPES];
+
+        start(&first, shape);
+        for (unsigned k = 0; k < 5 && !failures; k++)
+            random_step(&first, &first.m);
+        set_ranges(&first, refused_ranges(run / SHAPES, shape.lines));
+        CHECK(moesi_model_refusal(&first.m) == MOESI_REFUSED_RANGE);
+        check_under_refused(&first);
+        /* Once both ranges fit again, orders go on. */
+        set_range(&first, 0, shape.lines + 1, 0);
+        set_range(&first, 1, 0, shape.lines);
+        CHECK(moesi_model_refusal(&first.m) == MOESI_ACCEPTED);
+        CHECK(step(&first, &first.m, moesi_order_device_read(0), 0).refusal == MOESI_ACCEPTED);
+    }
+}
+
+/* Open and init empty the ranges, also those of a struct that was a model; where they refuse, the ranges stay. */
+static void check_emptied_ranges(void)
+{
+    for (int init = 0; init < 2 && !failures; init++) {
+        struct moesi_model *m = &first.m;
+
+        start(&first, ranged_shape);
+        set_ranges(&first, ranged);
+        CHECK((init ? moesi_model_init : moesi_model_open)(m, 2, 3, 16, m->memory, 128, m->data, 104) == 2);
+        CHECK((init ? moesi_model_init : moesi_model_open)(m, 2, 4, 16, m->memory, 127, m->data, 104) == 3);
+        CHECK(has_ranges(m, ranged));
+        CHECK((init ? moesi_model_init : moesi_model_open)(m, 2, 4, 16, first.memory_lent.bytes + GUARD, 128,
+                                                           first.room_lent.bytes + GUARD, 104) == 0);
+        first.ranges = no_ranges;
+        check_cut(&first);
+        check_refusal(&first, MOESI_ACCEPTED);
+        step(&first, m, moesi_order_read(0, 3, MOESI_WRITE_THROUGH), 0);
+        CHECK(moesi_model_state(m, 0, 3) == MOESI_THROUGH_EXCLUSIVE);
+    }
+}
+
+/* The struct's ranges: four numbers, two setters, a refusal. */
+static void check_ranges(void)
+{
+    check_emptied_ranges();
+    check_modes(0);
+    check_modes(1);
+    check_device_range();
+    check_refused_ranges();
+    for (size_t k = 0; k < 4 && !failures; k++)
+        CHECK(ranged_seen[k] > 10);
+    CHECK(failures || (setters_seen[0] > 100 && setters_seen[12] > 100 && refusals_seen[12] > 100));
+}
+
+/* A copy of the struct is the same model, with the same ranges; a second model, over memory and a room of its own, is
+   another one. */
 static void check_copies(void)
 {
     for (unsigned s = 0; s < SHAPES && !failures; s++) {
@@ -958,6 +1195,7 @@ static void check_copies(void)
 
         start(&second, shapes[(s + s % 2) % SHAPES]);
         start(&first, shapes[s]);
+        set_some_ranges(&first);
         if (failures)
             return;
         twin = first.m;
@@ -1169,6 +1407,21 @@ static void check_zeros_with_record(void)
     check_totals_are(&records, due);
 }
 
+/* Ranges on a struct of zeros: they are set, and it is no model still. */
+static void check_zeros_with_ranges(void)
+{
+    static struct moesi_model zeros;
+    static const struct ranges some = {1, 2, 3, 4};
+
+    CHECK(moesi_model_refusal(&zeros) == MOESI_REFUSED_SHAPE);
+    CHECK(moesi_model_set_scratch(&zeros, 1, 2) == MOESI_REFUSED_SHAPE);
+    CHECK(moesi_model_set_device(&zeros, 3, 4) == MOESI_REFUSED_SHAPE);
+    CHECK(has_ranges(&zeros, some) && zeros.ports == 0 && zeros.sets == 0 && zeros.lines == 0 && zeros.memory == NULL);
+    CHECK(moesi_model_step(&zeros, 0, 5).refusal == MOESI_REFUSED_SHAPE && moesi_model_passes(&zeros) == 0);
+    CHECK(moesi_model_set_scratch(&zeros, 0, 0) == MOESI_REFUSED_SHAPE);
+    CHECK(moesi_model_set_device(&zeros, UINT64_MAX, 0) == MOESI_REFUSED_SHAPE);
+}
+
 /* Conversions with a struct of zeros: refused 2, whatever the tables, and nothing is written. */
 static void check_zeros_with_old(void)
 {
@@ -1197,9 +1450,10 @@ static void check_seen(void)
 int main(void)
 {
     static void (*const checks[])(void) = {
-        check_sizes, check_tags,   check_names,  check_refusals,      check_zeros_with_record, check_totals,
-        check_lists, check_orders, check_copies, check_device_writes, check_damage,            check_seen,
-        check_zeros, check_zeros_with_old,       check_old_list,      check_old_sets,
+        check_sizes,    check_tags,     check_names,  check_refusals, check_zeros_with_record, check_zeros_with_ranges,
+        check_lists,    check_ranges,   check_old_list,               check_old_sets,          check_totals,
+        check_orders,   check_copies,   check_device_writes,          check_damage,            check_seen,
+        check_zeros,    check_zeros_with_old,
     };
 
     /* A group that fails is the last one: the others use what it found broken. */

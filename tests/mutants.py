@@ -2,6 +2,7 @@
 """Wrong versions of models, conversions, flat memory, programs and header, into a folder: tests catch them."""
 
 import pathlib
+import re
 import sys
 
 # Where a store finds out that it stores the same, in the walking model and in the second model.
@@ -22,6 +23,59 @@ SECOND_MISSED = ("    all_become_invalid(others);\n"
                  "    if (order.mode == SECOND_BACK) {\n        become(own, 'M', SECOND_BACK);\n")
 SECOND_WRITE_HIT = "    if (see_word(order, own->word, answer))\n        write_hit("
 SECOND_NOT_WRITTEN = "        read_hit(model, holding, own, order.mode, answer);\n    put_holders_back"
+
+
+# Where ranges are looked up and refused, in the walking model and in the second model.
+CHECK_RANGES = "check_ranges(lines, scratch_first, scratch_count, device_first, device_count)"
+CHECK_TURNED = "check_ranges(lines, scratch_count, scratch_first, device_count, device_first)"
+HAS_LINE = "    return line - first < count;\n"
+FORCE = "    return scratch | (w->mode & !device);\n"
+IN_FORCE = "    w->mode = mode_in_force(w);\n"
+SCRATCH_FOUND = "    unsigned scratch = has_line(w->scratch_first, w->scratch_count, w->line);\n"
+DEVICE_FOUND = "    unsigned device = has_line(w->device_first, w->device_count, w->line);\n"
+ENDS_BEYOND = "    return count > 0 && (first > lines || count > lines - first);\n"
+EITHER_BEYOND = ("    return ends_beyond(scratch_first, scratch_count, lines) || "
+                 "ends_beyond(device_first, device_count, lines) ? 12 : 0;\n")
+STEP_RANGES = f"    if ((refusal = {CHECK_RANGES}))\n        return refuse(answer, refusal);\n"
+FRESH_RANGES = f"    (void)memory;\n    if (!refusal)\n        refusal = {CHECK_RANGES};\n"
+AUDIT_RANGES = f"    if (!refusal)\n        refusal = {CHECK_RANGES};\n    *verdict"
+ANSWER_LENGTH = "    if (answer_len != ANSWER_BYTES)\n        return refusal ? refusal : 3;\n"
+VERDICT_LENGTH = "    if (verdict_len != VERDICT_BYTES)\n        return refusal ? refusal : 3;\n"
+FLUSHED = ("    if (is_owner(w->states[entry]))\n        store_line(w, w->line, load64(w->data + 8 * entry));\n"
+           "    w->states[entry] = INVALID;\n")
+IN_SCRATCH = "has_line(w->scratch_first, w->scratch_count, w->line)"
+IN_DEVICE = "has_line(w->device_first, w->device_count, w->line)"
+SECOND_HAS_LINE = "    return line >= range.first && line - range.first < range.count;\n"
+SECOND_SCRATCH_FIRST = "    if (second_has_line(shape.scratch, order.line))\n        return SECOND_BACK;\n"
+SECOND_DEVICE_NEXT = "    if (second_has_line(shape.device, order.line))\n        return SECOND_THROUGH;\n"
+SECOND_ELSEWHERE = "    /* \"elsewhere the order's mode stands\" */\n    return order.mode;\n"
+SECOND_IN_FORCE = "    order.mode = second_mode_in_force(model->shape, order);\n"
+SECOND_ENDS_BEYOND = "    return range.first > lines || range.count > lines - range.first;\n"
+SECOND_EMPTY = "    if (range.count == 0)\n        return 0;\n"
+SECOND_EITHER_BEYOND = "    return ends_beyond(shape.scratch, shape.lines) || ends_beyond(shape.device, shape.lines) ? 12 : 0;\n"
+SECOND_RANGES = "    return refusal != 0 ? refusal : second_ranges_refusal(shape);\n"
+SECOND_RECORD = "    return record_len == SECOND_RECORD_BYTES ? second_ranges_refusal(shape) : 3;\n"
+SECOND_REFUSED = "    if (answer.refusal != 0)\n        return answer;\n"
+
+
+def force(condition):
+    """The mode in force by another rule."""
+    return FORCE.replace("scratch | (w->mode & !device)", condition)
+
+
+def has_line(condition):
+    """A range has a line by another rule."""
+    return HAS_LINE.replace("line - first < count", condition)
+
+
+def ends_beyond(condition):
+    """A range ends beyond lines by another rule."""
+    return ENDS_BEYOND.replace("count > 0 && (first > lines || count > lines - first)", condition)
+
+
+def twelve_if(condition):
+    """A step gives refusal 12 under a condition more."""
+    return STEP_RANGES.replace("((refusal", f"({condition} && (refusal")
 
 
 def clean(condition):
@@ -526,8 +580,8 @@ WALKING = [
      "            return 8;\n        if (tag == w->tag) {",
      "        {\n            if (p == w->port)\n                return 8;\n            continue;\n        }\n        if (tag == w->tag) {"),
     ("a home line in 32 bits",
-     "((uint64_t)tag << shift) + w->index >= w->lines",
-     "(tag << shift) + w->index >= w->lines"),
+     ["((uint64_t)tag << shift) + w->index >= w->lines", "load32(w->tags + 4 * entry) * w->sets + w->index;"],
+     ["(tag << shift) + w->index >= w->lines", "(uint32_t)(load32(w->tags + 4 * entry) * w->sets + w->index);"]),
     ("a home line one too far",
      "((uint64_t)tag << shift) + w->index >= w->lines",
      "((uint64_t)tag << shift) + w->index > w->lines"),
@@ -556,8 +610,8 @@ WALKING = [
      "    if (answer_len != ANSWER_BYTES)\n        return refusal ? refusal : 3;",
      "    if (answer_len > ANSWER_BYTES)\n        refuse(answer, refusal ? refusal : 3);\n    if (answer_len != ANSWER_BYTES)\n        return refusal ? refusal : 3;"),
     ("a refused order leaves the answer alone",
-     "    if (refusal)\n        return refuse(answer, refusal);\n    w.memory",
-     "    if (refusal)\n        return refusal;\n    w.memory"),
+     "    if (refusal)\n        return refuse(answer, refusal);\n    if ((refusal = check_ranges",
+     "    if (refusal)\n        return refusal;\n    if ((refusal = check_ranges"),
     ("a refused order gives three zeros",
      "    memset(answer + 8, 0, 32);",
      "    memset(answer + 8, 0, 24);"),
@@ -579,8 +633,8 @@ WALKING = [
      "    memset(data, 0, data_len);\n",
      ""),
     ("fresh clears before it refuses",
-     "    (void)memory;\n    if (refusal)\n        return refusal;\n    memset(tags, 0, tags_len);",
-     "    (void)memory;\n    if (tags)\n        memset(tags, 0, tags_len);\n    if (refusal)\n        return refusal;"),
+     "    if (refusal)\n        return refusal;\n    memset(tags, 0, tags_len);",
+     "    if (tags)\n        memset(tags, 0, tags_len);\n    if (refusal)\n        return refusal;"),
     # The audit.
     ("the audit forgets the words",
      "c->word[q] != c->word[p] || ",
@@ -636,11 +690,152 @@ WALKING = [
      "    if (verdict_len > VERDICT_BYTES)\n        *verdict = 0;\n    if (verdict_len != VERDICT_BYTES)\n        return refusal ? refusal : 3;"),
 ]
 
+# Of ranges in the walking model. The groups of random ranges catch these.
+RANGES = [
+    # Which mode is in force.
+    ("the device range is looked up first", FORCE, force("!device & (scratch | w->mode)")),
+    ("scratch runs write through", FORCE, force("!scratch & w->mode & !device")),
+    ("the device range runs write back", FORCE, force("scratch | device | w->mode")),
+    ("the ranges change places", FORCE, force("device | (w->mode & !scratch)")),
+    ("the scratch range does nothing", FORCE, force("w->mode & !device")),
+    ("the device range does nothing", FORCE, force("scratch | w->mode")),
+    ("the ranges do nothing", IN_FORCE, ""),
+    ("elsewhere every order runs write back", FORCE, force("scratch | !device")),
+    ("elsewhere every order runs write through", FORCE, force("scratch")),
+    ("what is in both ranges runs as ordered", FORCE, force("scratch == device ? w->mode : scratch")),
+    ("in a range the order's mode is turned round", FORCE, force("scratch | device ? !w->mode : w->mode")),
+    # Which lines a range has.
+    ("a range is one line too long", HAS_LINE, has_line("count && line - first <= count")),
+    ("a range is one line too short", HAS_LINE, has_line("line - first + 1 < count")),
+    ("a range lacks its first line", HAS_LINE, has_line("line != first && line - first < count")),
+    ("a range lies one line later", HAS_LINE, has_line("line - first - 1 < count")),
+    ("a range has the line before it", HAS_LINE, has_line("count && line - first + 1 < count + 1")),
+    ("a range of one line is empty", HAS_LINE, has_line("count > 1 && line - first < count")),
+    ("a range is its first line", HAS_LINE, has_line("count && line == first")),
+    ("a count is taken for the last line", HAS_LINE, has_line("count && line >= first && line <= count")),
+    ("a count is taken for the end", HAS_LINE, has_line("line >= first && line < count")),
+    ("a count is ignored", HAS_LINE, has_line("line >= first")),
+    ("a range goes up to the last line", HAS_LINE, has_line("count && line >= first")),
+    ("a range starts at line 0", HAS_LINE, has_line("count && line < first + count")),
+    ("an empty range has its first line", HAS_LINE, has_line("line - first < count + !count")),
+    ("first line and count change places", HAS_LINE, has_line("line - count < first")),
+    ("scratch is as long as the device range",
+     SCRATCH_FOUND, SCRATCH_FOUND.replace("w->scratch_count", "w->device_count")),
+    ("the device range is as long as scratch",
+     DEVICE_FOUND, DEVICE_FOUND.replace("w->device_count", "w->scratch_count")),
+    ("the device range starts where scratch does",
+     DEVICE_FOUND, DEVICE_FOUND.replace("w->device_first", "w->scratch_first")),
+    ("the index is looked up in scratch", SCRATCH_FOUND, SCRATCH_FOUND.replace("w->line", "w->index")),
+    ("the tag is looked up in the device range", DEVICE_FOUND, DEVICE_FOUND.replace("w->line", "w->tag")),
+    ("the port is looked up in scratch", SCRATCH_FOUND, SCRATCH_FOUND.replace("w->line", "w->port")),
+    # Which orders look ranges up.
+    *((f"{name} pass the ranges over", IN_FORCE, f"    if ({condition})\n    " + IN_FORCE)
+      for name, condition in (("reads", "w->kind != READ"), ("writes", "w->kind != WRITE"),
+                              ("swaps", "w->kind != SWAP"), ("hits", "!(w->holders >> w->port & 1)"),
+                              ("misses", "w->holders >> w->port & 1"), ("ports but the first", "w->port == 0"),
+                              ("lines that another port has", "!(w->holders & ~(1u << w->port))"))),
+    ("a flush in scratch stores nothing", FLUSHED, FLUSHED.replace("entry]))", f"entry]) && !{IN_SCRATCH})")),
+    ("a flush in scratch keeps the copy", FLUSHED, f"    if ({IN_SCRATCH})\n        return;\n" + FLUSHED),
+    ("a flush in the device range leaves E",
+     FLUSHED, FLUSHED.replace("= INVALID", f"= {IN_DEVICE} ? THROUGH_E : INVALID")),
+    ("a flush in the device range stores a clean word",
+     FLUSHED, FLUSHED.replace("entry]))", f"entry]) || {IN_DEVICE})")),
+    ("a device read in scratch asks the caches",
+     "        w.value = load64(memory + 8 * (size_t)w.line);\n",
+     "        w.value = load64(memory + 8 * (size_t)w.line);\n"
+     "        if (has_line(scratch_first, scratch_count, w.line) && !walk_ports(&w) && w.owners)\n"
+     "            w.value = load64(data + 8 * entry_of(&w, (unsigned)__builtin_ctz(w.owners)));\n"),
+    ("a device write in scratch leaves the copies",
+     "merge(fetch(w), w->operand, w->mask));\n    set_all(w, w->holders, INVALID);",
+     f"merge(fetch(w), w->operand, w->mask));\n    if (!{IN_SCRATCH})\n        set_all(w, w->holders, INVALID);"),
+    ("a device write in the device range leaves S",
+     "merge(fetch(w), w->operand, w->mask));\n    set_all(w, w->holders, INVALID);",
+     f"merge(fetch(w), w->operand, w->mask));\n    set_all(w, w->holders, {IN_DEVICE} ? THROUGH_S : INVALID);"),
+    # Ranges that end beyond lines.
+    ("a step never gives 12", STEP_RANGES, ""),
+    ("fresh never gives 12", FRESH_RANGES, "    (void)memory;\n"),
+    ("the audit never gives 12", AUDIT_RANGES, "    *verdict"),
+    ("fresh gives 12 and clears the tables",
+     "    if (refusal)\n        return refusal;\n    memset(tags, 0, tags_len);",
+     "    if (refusal && refusal != 12)\n        return refusal;\n    if (refusal)\n        memset(states, 0, states_len);\n"
+     "    if (refusal)\n        return refusal;\n    memset(tags, 0, tags_len);"),
+    ("an audit refused 12 says yes",
+     "    *verdict = !refusal && is", "    *verdict = (!refusal || refusal == 12) && is"),
+    ("an audit refused 12 leaves the verdict", AUDIT_RANGES,
+     AUDIT_RANGES.replace("    *verdict", "    if (refusal == 12)\n        return refusal;\n    *verdict")),
+    ("scratch alone is checked", EITHER_BEYOND, EITHER_BEYOND.replace(" || ends_beyond(device_first, device_count, lines)", "")),
+    ("the device range alone is checked",
+     EITHER_BEYOND, EITHER_BEYOND.replace("ends_beyond(scratch_first, scratch_count, lines) || ", "")),
+    ("12 is given if both ranges end beyond lines", EITHER_BEYOND, EITHER_BEYOND.replace("||", "&&")),
+    ("ranges that cross are refused",
+     EITHER_BEYOND, EITHER_BEYOND.replace("return ", "return (scratch_count && device_count && scratch_first < device_first + device_count && "
+                                          "device_first < scratch_first + scratch_count) || ")),
+    ("12 has another number", EITHER_BEYOND, EITHER_BEYOND.replace("12", "3")),
+    ("the sum wraps", ENDS_BEYOND, ends_beyond("count > 0 && first + count > lines")),
+    ("an empty range beyond lines is refused", ENDS_BEYOND, ends_beyond("first > lines || count > lines - first")),
+    ("an empty range at the end of lines is refused",
+     ENDS_BEYOND, ends_beyond("count ? first > lines || count > lines - first : first == lines")),
+    ("a range may end one line beyond", ENDS_BEYOND, ends_beyond("count > 0 && (first > lines || count - 1 > lines - first)")),
+    ("a range up to the last line is refused", ENDS_BEYOND, ends_beyond("count > 0 && (first > lines || count >= lines - first)")),
+    ("all of memory is no range", ENDS_BEYOND, ends_beyond("count > 0 && (first > lines || count > lines - first || count == lines)")),
+    ("a range may start at the end", ENDS_BEYOND, ends_beyond("count > 0 && first != lines && (first > lines || count > lines - first)")),
+    ("the first line alone is checked", ENDS_BEYOND, ends_beyond("count > 0 && first >= lines")),
+    ("the count alone is checked", ENDS_BEYOND, ends_beyond("count > lines")),
+    ("the numbers of a range are cut to 32 bits",
+     ENDS_BEYOND, ends_beyond("(uint32_t)count > 0 && ((uint32_t)first > lines || (uint32_t)count > lines - (uint32_t)first)")),
+    ("a range ends beyond 4,096 lines", ENDS_BEYOND, ends_beyond("count > 0 && (first > 4096 || count > 4096 - first)")),
+    # The order of refusals.
+    ("12 is given before 2", ANSWER_LENGTH, f"    if (refusal == 2 && {CHECK_RANGES})\n        refusal = 12;\n" + ANSWER_LENGTH),
+    ("12 is given before 3 of memory and the tables",
+     ANSWER_LENGTH, f"    if (refusal == 3 && {CHECK_RANGES})\n        refusal = 12;\n" + ANSWER_LENGTH),
+    ("12 is given before 3 of the answer", ANSWER_LENGTH, ANSWER_LENGTH.replace(": 3", f": {CHECK_RANGES} ? 12 : 3")),
+    ("12 is given before 3 of the verdict", VERDICT_LENGTH, VERDICT_LENGTH.replace(": 3", f": {CHECK_RANGES} ? 12 : 3")),
+    ("the audit gives 12 before 2",
+     VERDICT_LENGTH, f"    if (refusal == 2 && {CHECK_RANGES})\n        refusal = 12;\n" + VERDICT_LENGTH),
+    ("the audit gives 12 before 3",
+     VERDICT_LENGTH, f"    if (refusal == 3 && {CHECK_RANGES})\n        refusal = 12;\n" + VERDICT_LENGTH),
+    ("fresh gives 12 before 2", FRESH_RANGES, FRESH_RANGES.replace("!refusal)", f"!refusal || (refusal == 2 && {CHECK_RANGES}))")),
+    ("fresh gives 12 before 3", FRESH_RANGES, FRESH_RANGES.replace("!refusal)", f"!refusal || (refusal == 3 && {CHECK_RANGES}))")),
+    ("12 is given after 4", STEP_RANGES, twelve_if("(word & 7) <= DEVICE_WRITE")),
+    ("12 is given after 5", STEP_RANGES, twelve_if("((word & 7) >= DEVICE_READ || (word >> 4 & 15) < ports)")),
+    ("12 is given after 6", STEP_RANGES, twelve_if("(word >> 16 & 65535) < lines")),
+    ("12 is given after 7",
+     STEP_RANGES, twelve_if("((word & 7) != SWAP || (word >> 8 & 255) == 0x0F || (word >> 8 & 255) == 0xF0)")),
+    ("12 is given after 8",
+     [STEP_RANGES, "    if ((refusal = walk_ports(&w)))\n        return refuse(answer, refusal);\n"],
+     [twelve_if("(word & 7) == DEVICE_READ"),
+      "    if ((refusal = walk_ports(&w)))\n        return refuse(answer, refusal);\n" + STEP_RANGES]),
+    ("12 is given to orders in a range alone",
+     STEP_RANGES, twelve_if("(has_line(scratch_first, scratch_count, word >> 16 & 65535) || "
+                            "has_line(device_first, device_count, word >> 16 & 65535))")),
+    ("12 is given to accesses alone", STEP_RANGES, twelve_if("(word & 7) <= SWAP")),
+    ("a device read is not refused 12", STEP_RANGES, twelve_if("(word & 7) != DEVICE_READ")),
+    ("a step refused 12 leaves the answer", STEP_RANGES, STEP_RANGES.replace("refuse(answer, refusal)", "refusal")),
+    ("a step refused 12 writes a table byte",
+     STEP_RANGES, STEP_RANGES.replace("        return", "    {\n        states[0] ^= 1;\n        return") + "    }\n"),
+    ("a range that starts beyond 4,096 lines is refused 2",
+     STEP_RANGES, "    if (scratch_first > 4096 || device_first > 4096)\n        return refuse(answer, 2);\n" + STEP_RANGES),
+    # The numbers in each other's place.
+    ("fresh checks first lines for counts", FRESH_RANGES, FRESH_RANGES.replace(CHECK_RANGES, CHECK_TURNED)),
+    ("the audit checks first lines for counts", AUDIT_RANGES, AUDIT_RANGES.replace(CHECK_RANGES, CHECK_TURNED)),
+    ("a step checks first lines for counts", STEP_RANGES, STEP_RANGES.replace(CHECK_RANGES, CHECK_TURNED)),
+    ("a step checks ranges against sets", STEP_RANGES, STEP_RANGES.replace("(lines,", "(sets,")),
+    *((f"a step takes {name}", f"    w.{one} = {one};\n    w.{other} = {other};\n", f"    w.{one} = {other};\n    w.{other} = {one};\n")
+      for name, one, other in (("scratch's first line for its count", "scratch_first", "scratch_count"),
+                               ("the device range's first line for its count", "device_first", "device_count"),
+                               ("scratch's count for the device range's first line", "scratch_count", "device_first"))),
+    ("a step takes one range for the other",
+     "    w.scratch_first = scratch_first;\n    w.scratch_count = scratch_count;\n"
+     "    w.device_first = device_first;\n    w.device_count = device_count;\n",
+     "    w.scratch_first = device_first;\n    w.scratch_count = device_count;\n"
+     "    w.device_first = scratch_first;\n    w.device_count = scratch_count;\n"),
+]
+
 # Of the step with a record in the walking model. The groups of random records catch these.
 FULL = "    if (is_full(record))\n        return answer_len == ANSWER_BYTES ? refuse(answer, 9) : 9;\n"
 SLICES = "check_slices(ports, sets, lines, memory_len, tags_len, states_len, data_len)"
-STEP = ("walking_step(ports, sets, lines, word, operand, memory, memory_len, tags, tags_len, states, states_len,\n"
-        "                           data, data_len, answer, answer_len);\n")
+STEP = ("walking_step(ports, sets, lines, scratch_first, scratch_count, device_first, device_count, word, operand,\n"
+        "                           memory, memory_len, tags, tags_len, states, states_len, data, data_len, answer, answer_len);\n")
 TOO_HIGH = "        if (load64(record + 8 * k) > UINT64_MAX - 2)\n"
 ANOTHER_LENGTH = "    if (record_len != RECORD_BYTES) {\n"
 REFUSED = "        add_to(record, REFUSED, 1);\n"
@@ -673,6 +868,7 @@ TOTALS = [
      f"        if (answer_len == ANSWER_BYTES && !{SLICES} && !take_apart(&w, word) && w.kind != DEVICE_READ &&\n"
      "            walk_ports(&w))\n            return refuse(answer, 8);\n"
      "        return answer_len == ANSWER_BYTES ? refuse(answer, 9) : 9;\n    }\n"),
+    ("9 is given after 12", FULL, unless(f"!{CHECK_RANGES}")),
     ("9 is never given", FULL, ""),
     ("9 is not answered", FULL, "    if (is_full(record))\n        return 9;\n"),
     ("9 writes an answer of another length", FULL, FULL.replace("answer_len ==", "answer_len >=")),
@@ -732,7 +928,7 @@ TOTALS = [
     ("refused orders are not counted", REFUSED, ""),
     ("refused orders are counted twice", REFUSED, REFUSED * 2),
     *((f"refusal {number} is not counted", REFUSED, f"        if (refusal != {number})\n    " + REFUSED)
-      for number in range(2, 9)),
+      for number in (*range(2, 9), 12)),
     ("a call with an answer of another length is not counted",
      REFUSED, "        if (answer_len == ANSWER_BYTES)\n    " + REFUSED),
     ("the refusal's number is counted", REFUSED, REFUSED.replace("1)", "refusal)")),
@@ -749,6 +945,26 @@ TOTALS = [
     ("a longer record may be full",
      ANOTHER_LENGTH, FULL.replace("(is_full", "(record_len > RECORD_BYTES && is_full") + ANOTHER_LENGTH),
     ("3 of the record is given before 2", "        refusal = refusal == 2 ? 2 : 3;\n", "        refusal = 3;\n"),
+    ("3 of the record is given after 12",
+     "        refusal = refusal == 2 ? 2 : 3;\n",
+     "        if (!refusal && answer_len == ANSWER_BYTES)\n"
+     f"            refusal = {CHECK_RANGES};\n        refusal = refusal ? refusal : 3;\n"),
+    ("a refused range is counted under the order's kind",
+     REFUSED, "        if (refusal == 12 && (word & 7) <= DEVICE_WRITE)\n            add_to(record, word & 7, 1);\n"
+     "        else\n    " + REFUSED),
+    ("a refused range is counted twice", REFUSED, REFUSED.replace("1)", "1 + (refusal == 12))")),
+    ("with a record the ranges are empty", "    refusal = " + STEP, "    refusal = " + STEP.replace(
+        "scratch_first, scratch_count, device_first, device_count", "0, 0, 0, 0")),
+    ("with a record scratch is empty", "    refusal = " + STEP, "    refusal = " + STEP.replace(
+        "scratch_first, scratch_count,", "0, 0,")),
+    ("with a record the device range is empty", "    refusal = " + STEP, "    refusal = " + STEP.replace(
+        "device_first, device_count,", "0, 0,")),
+    ("with a record one range is taken for the other", "    refusal = " + STEP, "    refusal = " + STEP.replace(
+        "scratch_first, scratch_count, device_first, device_count",
+        "device_first, device_count, scratch_first, scratch_count")),
+    ("with a record first lines are taken for counts", "    refusal = " + STEP, "    refusal = " + STEP.replace(
+        "scratch_first, scratch_count, device_first, device_count",
+        "scratch_count, scratch_first, device_count, device_first")),
     ("3 of the record is given after 4 to 7",
      "        refusal = refusal == 2 ? 2 : 3;\n",
      "        struct walk w = {.ports = ports, .lines = lines};\n\n"
@@ -918,6 +1134,40 @@ BOTH = [
      "    if (order.kind == SECOND_SWAP && !answer->swapped && order.mode == SECOND_BACK && own->status.letter == 'M' &&\n"
      "        !second_merge_changes(own->word, order.operand, order.mask))\n        become(own, 'E', SECOND_BACK);\n"
      "    put_holders_back"),
+    # Ranges: a device read in the device range tells, which is always under mark 0.
+    ("the device range runs write back",
+     FORCE, force("scratch | device | w->mode"),
+     SECOND_DEVICE_NEXT, SECOND_DEVICE_NEXT.replace("SECOND_THROUGH", "SECOND_BACK")),
+    ("the device range does nothing", FORCE, force("scratch | w->mode"), SECOND_DEVICE_NEXT, ""),
+    ("the ranges do nothing", IN_FORCE, "", SECOND_IN_FORCE, ""),
+    ("the ranges change places",
+     FORCE, force("device | (w->mode & !scratch)"),
+     SECOND_SCRATCH_FIRST + SECOND_DEVICE_NEXT,
+     SECOND_DEVICE_NEXT.replace("SECOND_THROUGH", "SECOND_BACK") + SECOND_SCRATCH_FIRST.replace("SECOND_BACK", "SECOND_THROUGH")),
+    ("elsewhere every order runs write back",
+     FORCE, force("scratch | !device"), SECOND_ELSEWHERE, SECOND_ELSEWHERE.replace("order.mode;", "SECOND_BACK;")),
+    ("a range is one line too short",
+     HAS_LINE, has_line("line - first + 1 < count"), SECOND_HAS_LINE, SECOND_HAS_LINE.replace("first < range", "first + 1 < range")),
+    ("a range lacks its first line",
+     HAS_LINE, has_line("line != first && line - first < count"), SECOND_HAS_LINE, SECOND_HAS_LINE.replace(">=", ">")),
+    ("a range is its first line",
+     HAS_LINE, has_line("count && line == first"),
+     SECOND_HAS_LINE, "    return range.count > 0 && line == range.first;\n"),
+    ("a count is taken for the end",
+     HAS_LINE, has_line("line >= first && line < count"),
+     SECOND_HAS_LINE, "    return line >= range.first && line < range.count;\n"),
+    ("writes pass the ranges over",
+     IN_FORCE, "    if (w->kind != WRITE)\n    " + IN_FORCE,
+     SECOND_IN_FORCE, "    if (order.kind != SECOND_WRITE)\n    " + SECOND_IN_FORCE),
+    ("swaps pass the ranges over",
+     IN_FORCE, "    if (w->kind != SWAP)\n    " + IN_FORCE,
+     SECOND_IN_FORCE, "    if (order.kind != SECOND_SWAP)\n    " + SECOND_IN_FORCE),
+    ("hits pass the ranges over",
+     IN_FORCE, "    if (!(w->holders >> w->port & 1))\n    " + IN_FORCE,
+     SECOND_IN_FORCE, "    if (own == NULL)\n    " + SECOND_IN_FORCE),
+    ("misses pass the ranges over",
+     IN_FORCE, "    if (w->holders >> w->port & 1)\n    " + IN_FORCE,
+     SECOND_IN_FORCE, "    if (own != NULL)\n    " + SECOND_IN_FORCE),
     # Ports read the right word then, and the audit says yes: what tells is a device read under mark 0.
     ("a device write gives an owner and its sharers the word, and memory nothing",
      "    store_line(w, w->line, merge(fetch(w), w->operand, w->mask));\n",
@@ -1131,6 +1381,191 @@ SAME = [
      "    if (second_merge_changes(word, order.operand, order.mask))\n        all_become_invalid(holding);\n"),
 ]
 
+# The same slip of ranges in both models where the flat memory and the audit can't tell, or are refused too: the orders and
+# the refusals worked out by hand can.
+SECOND_TOO_HIGH = "        if (decode_word(record + 8 * place) > UINT64_C(18446744073709551613))\n"
+SECOND_FLUSHED = "    if (owns(own))\n        store(model, holding->line, own->word, answer);\n"
+
+
+def ranged_later(condition, second_condition):
+    """Refusal 12 only under a condition on the order, in both models; an order that fails it is looked at further."""
+    return (STEP_RANGES, twelve_if(condition),
+            [SECOND_RANGES, SECOND_RECORD, SECOND_REFUSED],
+            [SECOND_RANGES.replace("refusal != 0", "refusal != 0 || result == SECOND_ANSWER_BYTES"),
+             SECOND_RECORD.replace("second_ranges_refusal(shape)", "0"),
+             f"    if ({second_condition} && second_ranges_refusal(model->shape) != 0)\n        answer.refusal = 12;\n"
+             + SECOND_REFUSED])
+
+
+RANGED = [
+    # The mode in force.
+    ("the device range is looked up first",
+     FORCE, force("!device & (scratch | w->mode)"),
+     SECOND_SCRATCH_FIRST + SECOND_DEVICE_NEXT, SECOND_DEVICE_NEXT + SECOND_SCRATCH_FIRST),
+    ("scratch runs write through",
+     FORCE, force("!scratch & w->mode & !device"),
+     SECOND_SCRATCH_FIRST, SECOND_SCRATCH_FIRST.replace("SECOND_BACK", "SECOND_THROUGH")),
+    ("the scratch range does nothing", FORCE, force("w->mode & !device"), SECOND_SCRATCH_FIRST, ""),
+    ("what is in both ranges runs as ordered",
+     FORCE, force("scratch == device ? w->mode : scratch"),
+     SECOND_SCRATCH_FIRST,
+     "    if (second_has_line(shape.scratch, order.line) && second_has_line(shape.device, order.line))\n"
+     "        return order.mode;\n" + SECOND_SCRATCH_FIRST),
+    ("elsewhere every order runs write through",
+     FORCE, force("scratch"), SECOND_ELSEWHERE, SECOND_ELSEWHERE.replace("order.mode;", "SECOND_THROUGH;")),
+    ("scratch is one line too long",
+     SCRATCH_FOUND, SCRATCH_FOUND.replace("w->scratch_count", "w->scratch_count + !!w->scratch_count"),
+     SECOND_SCRATCH_FIRST, "    shape.scratch.count += shape.scratch.count > 0;\n" + SECOND_SCRATCH_FIRST),
+    ("scratch is one line too short",
+     SCRATCH_FOUND, SCRATCH_FOUND.replace("w->scratch_count", "w->scratch_count - !!w->scratch_count"),
+     SECOND_SCRATCH_FIRST, "    shape.scratch.count -= shape.scratch.count > 0;\n" + SECOND_SCRATCH_FIRST),
+    ("scratch lacks its first line",
+     SCRATCH_FOUND, SCRATCH_FOUND.replace("has_line", "w->line != w->scratch_first && has_line"),
+     SECOND_SCRATCH_FIRST, SECOND_SCRATCH_FIRST.replace("(second_has_line", "(order.line != shape.scratch.first && second_has_line")),
+    ("the device range is one line too long",
+     DEVICE_FOUND, DEVICE_FOUND.replace("w->device_count", "w->device_count + !!w->device_count"),
+     SECOND_DEVICE_NEXT, "    shape.device.count += shape.device.count > 0;\n" + SECOND_DEVICE_NEXT),
+    ("the device range has the line before it",
+     DEVICE_FOUND, DEVICE_FOUND.replace("has_line", "(w->device_count && w->line + 1 == w->device_first) || has_line"),
+     SECOND_DEVICE_NEXT,
+     SECOND_DEVICE_NEXT.replace("(second_has_line",
+                                "((shape.device.count > 0 && order.line + 1 == shape.device.first) || second_has_line")),
+    ("a range lies one line later",
+     HAS_LINE, has_line("line - first - 1 < count"), SECOND_HAS_LINE, "    return line - range.first - 1 < range.count;\n"),
+    ("a range goes up to the last line",
+     HAS_LINE, has_line("count && line >= first"),
+     SECOND_HAS_LINE, "    return range.count > 0 && line >= range.first;\n"),
+    ("a range starts at line 0",
+     HAS_LINE, has_line("count && line < first + count"),
+     SECOND_HAS_LINE, "    return range.count > 0 && line < range.first + range.count;\n"),
+    ("an empty range has its first line",
+     HAS_LINE, has_line("line - first < count + !count"),
+     SECOND_HAS_LINE, SECOND_HAS_LINE.replace("range.count;", "range.count + (range.count == 0);")),
+    ("reads pass the ranges over",
+     IN_FORCE, "    if (w->kind != READ)\n    " + IN_FORCE,
+     SECOND_IN_FORCE, "    if (order.kind != SECOND_READ)\n    " + SECOND_IN_FORCE),
+    ("a flush in scratch stores nothing",
+     FLUSHED, FLUSHED.replace("entry]))", f"entry]) && !{IN_SCRATCH})"),
+     SECOND_FLUSHED, SECOND_FLUSHED.replace("own))", "own) && !second_has_line(model->shape.scratch, holding->line))")),
+    ("a flush in the device range stores a clean word",
+     FLUSHED, FLUSHED.replace("entry]))", f"entry]) || {IN_DEVICE})"),
+     SECOND_FLUSHED, SECOND_FLUSHED.replace("own))", "own) || second_has_line(model->shape.device, holding->line))")),
+    ("a device write in the device range leaves S, and its word",
+     "merge(fetch(w), w->operand, w->mask));\n    set_all(w, w->holders, INVALID);",
+     f"merge(fetch(w), w->operand, w->mask));\n    set_all(w, w->holders, {IN_DEVICE} ? THROUGH_S : INVALID);\n"
+     f"    for (unsigned p = 0; p < w->ports && {IN_DEVICE}; p++)\n        if (w->holders >> p & 1)\n"
+     "            store64(w->data + 8 * entry_of(w, p), load64(w->memory + 8 * (size_t)w->line));",
+     "    all_become_invalid(holding);\n    put_holders_back(model, holding);\n}\n\n/* The three calls. */",
+     "    for (unsigned k = 0; k < holding->count; k++) {\n        holding->holders[k].word = model->memory[order.line];\n"
+     "        become(&holding->holders[k], second_has_line(model->shape.device, order.line) ? 'S' : 'I', SECOND_THROUGH);\n"
+     "    }\n    put_holders_back(model, holding);\n}\n\n/* The three calls. */"),
+    # Which ranges end beyond lines.
+    ("12 is never given", EITHER_BEYOND, "    return 0;\n", SECOND_EITHER_BEYOND, "    return 0;\n"),
+    ("scratch alone is checked",
+     EITHER_BEYOND, EITHER_BEYOND.replace(" || ends_beyond(device_first, device_count, lines)", ""),
+     SECOND_EITHER_BEYOND, SECOND_EITHER_BEYOND.replace(" || ends_beyond(shape.device, shape.lines)", "")),
+    ("the device range alone is checked",
+     EITHER_BEYOND, EITHER_BEYOND.replace("ends_beyond(scratch_first, scratch_count, lines) || ", ""),
+     SECOND_EITHER_BEYOND, SECOND_EITHER_BEYOND.replace("ends_beyond(shape.scratch, shape.lines) || ", "")),
+    ("12 is given if both ranges end beyond lines",
+     EITHER_BEYOND, EITHER_BEYOND.replace("||", "&&"), SECOND_EITHER_BEYOND, SECOND_EITHER_BEYOND.replace("||", "&&")),
+    ("12 has another number",
+     EITHER_BEYOND, EITHER_BEYOND.replace("12", "3"), SECOND_EITHER_BEYOND, SECOND_EITHER_BEYOND.replace("12", "3")),
+    ("the sum wraps",
+     ENDS_BEYOND, ends_beyond("count > 0 && first + count > lines"),
+     SECOND_ENDS_BEYOND, "    return range.first + range.count > lines;\n"),
+    ("an empty range beyond lines is refused",
+     ENDS_BEYOND, ends_beyond("first > lines || count > lines - first"), SECOND_EMPTY + SECOND_ENDS_BEYOND, SECOND_ENDS_BEYOND),
+    ("a range may end one line beyond",
+     ENDS_BEYOND, ends_beyond("count > 0 && (first > lines || count - 1 > lines - first)"),
+     SECOND_ENDS_BEYOND, SECOND_ENDS_BEYOND.replace("|| range.count >", "|| range.count - 1 >")),
+    ("a range up to the last line is refused",
+     ENDS_BEYOND, ends_beyond("count > 0 && (first > lines || count >= lines - first)"),
+     SECOND_ENDS_BEYOND, SECOND_ENDS_BEYOND.replace("|| range.count >", "|| range.count >=")),
+    ("the first line alone is checked",
+     ENDS_BEYOND, ends_beyond("count > 0 && first >= lines"),
+     SECOND_ENDS_BEYOND, "    return range.first >= lines;\n"),
+    ("the count alone is checked",
+     ENDS_BEYOND, ends_beyond("count > lines"), SECOND_ENDS_BEYOND, "    return range.count > lines;\n"),
+    ("the numbers of a range are cut to 32 bits",
+     ENDS_BEYOND, ends_beyond("(uint32_t)count > 0 && ((uint32_t)first > lines || (uint32_t)count > lines - (uint32_t)first)"),
+     SECOND_EMPTY, "    range.first = (uint32_t)range.first;\n    range.count = (uint32_t)range.count;\n" + SECOND_EMPTY),
+    ("a range ends beyond 4,096 lines",
+     ENDS_BEYOND, ends_beyond("count > 0 && (first > 4096 || count > 4096 - first)"),
+     SECOND_EMPTY, SECOND_EMPTY + "    lines = 4096;\n"),
+    # Who gives 12, and when.
+    ("fresh and the audit give no 12",
+     "uint64_t walking_fresh(", "#define check_ranges(...) 0\nuint64_t walking_fresh(",
+     SECOND_RANGES, SECOND_RANGES.replace("refusal != 0", "refusal != 0 || result == SECOND_VERDICT_BYTES")),
+    ("12 is given before 2",
+     ANSWER_LENGTH, f"    if (refusal == 2 && {CHECK_RANGES})\n        refusal = 12;\n" + ANSWER_LENGTH,
+     [SECOND_RANGES, "    refusal = second_sizes_refusal(shape, lengths, SECOND_ANSWER_BYTES);\n"],
+     ["    if (result == SECOND_ANSWER_BYTES && refusal == 2 && second_ranges_refusal(shape) != 0)\n        return 12;\n"
+      + SECOND_RANGES,
+      "    refusal = second_sizes_refusal(shape, lengths, SECOND_ANSWER_BYTES);\n"
+      "    if (refusal == 2 && record_len == SECOND_RECORD_BYTES && second_ranges_refusal(shape) != 0)\n        return 12;\n"]),
+    ("12 is given before 3 of memory and the tables",
+     ANSWER_LENGTH, f"    if (refusal == 3 && {CHECK_RANGES})\n        refusal = 12;\n" + ANSWER_LENGTH,
+     [SECOND_RANGES, "    refusal = second_sizes_refusal(shape, lengths, SECOND_ANSWER_BYTES);\n"],
+     ["    if (result == SECOND_ANSWER_BYTES && refusal == 3 && lengths.result == result && second_ranges_refusal(shape) != 0)\n"
+      "        return 12;\n" + SECOND_RANGES,
+      "    refusal = second_sizes_refusal(shape, lengths, SECOND_ANSWER_BYTES);\n"
+      "    if (refusal == 3 && record_len == SECOND_RECORD_BYTES && lengths.result == 40 && second_ranges_refusal(shape) != 0)\n"
+      "        return 12;\n"]),
+    ("12 is given before 3 of the record",
+     "        refusal = refusal == 2 ? 2 : 3;\n",
+     f"        refusal = refusal ? refusal : answer_len != ANSWER_BYTES ? 3 : {CHECK_RANGES} ? 12 : 3;\n",
+     SECOND_RECORD, SECOND_RECORD.replace("record_len == SECOND_RECORD_BYTES ?",
+                                          "record_len == SECOND_RECORD_BYTES || second_ranges_refusal(shape) != 0 ?")),
+    ("12 is given after 4", *ranged_later("(word & 7) <= DEVICE_WRITE", "order.kind < SECOND_KINDS")),
+    ("12 is given after 5", *ranged_later("((word & 7) >= DEVICE_READ || (word >> 4 & 15) < ports)",
+                                          "(order.kind >= SECOND_DEVICE_READ || order.port < model->shape.ports)")),
+    ("12 is given after 6", *ranged_later("(word >> 16 & 65535) < lines", "order.line < model->shape.lines")),
+    ("12 is given after 7",
+     *ranged_later("((word & 7) != SWAP || (word >> 8 & 255) == 0x0F || (word >> 8 & 255) == 0xF0)",
+                   "(order.kind != SECOND_SWAP || order.mask == 0x0F || order.mask == 0xF0)")),
+    ("a device read is not refused 12",
+     *ranged_later("(word & 7) != DEVICE_READ", "order.kind != SECOND_DEVICE_READ")),
+    ("12 is given to accesses alone", *ranged_later("(word & 7) <= SWAP", "order.kind <= SECOND_SWAP")),
+    ("9 is given after 12",
+     FULL, unless(f"({SLICES} || answer_len != ANSWER_BYTES || !{CHECK_RANGES})"),
+     SECOND_TOO_HIGH, SECOND_TOO_HIGH.replace(
+         "613))", "613) && second_call_refusal(shape, lengths, SECOND_ANSWER_BYTES) != 12)")),
+    ("12 is not counted",
+     REFUSED, "        if (refusal != 12)\n    " + REFUSED,
+     "return answer.refusal != 0;\n    case SECOND_TOTAL_READS",
+     "return answer.refusal != 0 && answer.refusal != 12;\n    case SECOND_TOTAL_READS"),
+]
+
+# Of the flat memory and its ranges: the marks after orders worked out by hand catch these.
+FLAT_FOUND = "    order.mode = mode_found(flat->shape, order);\n"
+FLAT_SCRATCH = ("    if (shape.scratch.count > 0 && order.line >= shape.scratch.first && order.line < scratch_end)\n"
+                "        return SECOND_BACK;\n")
+FLAT_DEVICE = ("    if (shape.device.count > 0 && order.line >= shape.device.first && order.line < device_end)\n"
+               "        return SECOND_THROUGH;\n")
+MARKS = [
+    ("the mode is the order's", FLAT_FOUND, ""),
+    ("the device range is looked up first", FLAT_SCRATCH + FLAT_DEVICE, FLAT_DEVICE + FLAT_SCRATCH),
+    ("the scratch range does nothing", FLAT_SCRATCH, ""),
+    ("the device range does nothing", FLAT_DEVICE, ""),
+    ("scratch runs write through", FLAT_SCRATCH, FLAT_SCRATCH.replace("SECOND_BACK", "SECOND_THROUGH")),
+    ("the device range runs write back", FLAT_DEVICE, FLAT_DEVICE.replace("SECOND_THROUGH", "SECOND_BACK")),
+    ("scratch is one line too short", FLAT_SCRATCH, FLAT_SCRATCH.replace("< scratch_end", "+ 1 < scratch_end")),
+    ("scratch lacks its first line", FLAT_SCRATCH, FLAT_SCRATCH.replace(">= shape", "> shape")),
+    ("scratch has the line before it", FLAT_SCRATCH, FLAT_SCRATCH.replace("order.line >=", "order.line + 1 >=")),
+    ("scratch is one line too long", FLAT_SCRATCH, FLAT_SCRATCH.replace("< scratch_end", "<= scratch_end")),
+    ("the device range is one line too short", FLAT_DEVICE, FLAT_DEVICE.replace("< device_end", "+ 1 < device_end")),
+    ("the device range is one line too long", FLAT_DEVICE, FLAT_DEVICE.replace("< device_end", "<= device_end")),
+    ("reads pass the ranges over", FLAT_FOUND, "    if (order.kind != SECOND_READ)\n    " + FLAT_FOUND),
+    ("writes pass the ranges over", FLAT_FOUND, "    if (order.kind != SECOND_WRITE)\n    " + FLAT_FOUND),
+    ("swaps pass the ranges over", FLAT_FOUND, "    if (order.kind != SECOND_SWAP)\n    " + FLAT_FOUND),
+    ("a flush in scratch clears the mark", FLAT_FOUND,
+     FLAT_FOUND + "    if (order.kind == SECOND_FLUSH && order.mode == SECOND_BACK)\n        flat->marks[order.line] = 0;\n"),
+    ("a device write in scratch sets the mark", FLAT_FOUND,
+     "    if (order.kind == SECOND_DEVICE_WRITE && mode_found(flat->shape, order) == SECOND_BACK) {\n"
+     "        flat_write(flat, (order.mode = SECOND_BACK, order));\n        return answer;\n    }\n" + FLAT_FOUND),
+]
+
 # Of the flat memory. The marks after stores worked out by hand catch these: what a device reads can't show them all.
 FLAT_MERGED = ("    flat->words[order.line] = second_merge(flat->words[order.line], order.operand, order.mask);\n"
                "    flat->marks[order.line] = order.mode")
@@ -1157,11 +1592,10 @@ FLAT = [
 ]
 
 # The same slip of totals in both models: the totals worked out by hand can tell.
-SECOND_TOO_HIGH = "        if (decode_word(record + 8 * place) > UINT64_C(18446744073709551613))\n"
 SECOND_PLACES = "    for (unsigned place = 0; place < SECOND_TOTALS && record_len == SECOND_RECORD_BYTES; place++) {\n"
 SECOND_ACCEPTED = "        return answer.refusal == 0 && second_take_apart(word, 0).kind == place;\n"
 SECOND_COUNT = "encode_word(decode_word(record + 8 * place) + second_adds(place, word, answer), record + 8 * place);\n"
-OTHER_REFUSAL = "second_call_refusal(shape, lengths, SECOND_ANSWER_BYTES)"
+OTHER_REFUSAL = "second_sizes_refusal(shape, lengths, SECOND_ANSWER_BYTES)"
 COUNTED = [
     ("9 is given after 2",
      FULL, unless(f"{SLICES} != 2"),
@@ -1186,12 +1620,10 @@ COUNTED = [
      SECOND_PLACES, SECOND_PLACES.replace("record_len ==", "record_len >=")),
     ("a record of 88 bytes is let in, and nothing is counted",
      ANOTHER_LENGTH, "    if (record_len == RECORD_BYTES + 8)\n        return " + STEP + ANOTHER_LENGTH,
-     "    return record_len == SECOND_RECORD_BYTES ? 0 : 3;\n",
-     "    return record_len == SECOND_RECORD_BYTES || record_len == SECOND_RECORD_BYTES + 8 ? 0 : 3;\n"),
+     SECOND_RECORD, SECOND_RECORD.replace("SECOND_RECORD_BYTES ?", "SECOND_RECORD_BYTES || record_len == SECOND_RECORD_BYTES + 8 ?")),
     ("no record is let in",
      ANOTHER_LENGTH, "    if (record_len == 0)\n        return " + STEP + ANOTHER_LENGTH,
-     "    return record_len == SECOND_RECORD_BYTES ? 0 : 3;\n",
-     "    return record_len == SECOND_RECORD_BYTES || record_len == 0 ? 0 : 3;\n"),
+     SECOND_RECORD, SECOND_RECORD.replace("SECOND_RECORD_BYTES ?", "SECOND_RECORD_BYTES || record_len == 0 ?")),
     ("3 of the record is given before 2",
      "        refusal = refusal == 2 ? 2 : 3;\n", "        refusal = 3;\n",
      f"    refusal = {OTHER_REFUSAL};\n",
@@ -1543,6 +1975,10 @@ TRACE = [
     ("the shape is refused before the length",
      "    if (number_at(12, 4) > MOST_ORDERS",
      "    if (number_at(0, 4) > 8)\n        return 2;\n    if (number_at(12, 4) > MOST_ORDERS"),
+    ("every line is scratch",
+     "    second_fresh(&model);\n", "    second_fresh(&model);\n    model.shape.scratch.count = model.shape.lines;\n"),
+    ("every line is in the device range",
+     "    second_fresh(&model);\n", "    second_fresh(&model);\n    model.shape.device.count = model.shape.lines;\n"),
     ("words and operands take turns",
      "uint64_t operand = number_at(HEAD_BYTES + 8 * orders + 8 * k, 8);",
      "uint64_t operand = number_at(HEAD_BYTES + 8 * k + 8, 8);"),
@@ -1626,6 +2062,8 @@ ROWS = [
      RUN_START,
      "    model.shape = said_shape();\n    for (size_t line = 0; line < SECOND_MAX_LINES; line++)\n"
      "        model.memory[line] = zeros.memory[line];\n"),
+    ("every line is scratch", RUN_START, RUN_START + "    model.shape.scratch.count = model.shape.lines;\n"),
+    ("every line is in the device range", RUN_START, RUN_START + "    model.shape.device.count = model.shape.lines;\n"),
     ("totals stay from trace to trace",
      "        uint64_t totals[SECOND_TOTALS] = {0};\n", "        static uint64_t totals[SECOND_TOTALS];\n"),
     ("the sum row is the last trace's",
@@ -1653,6 +2091,52 @@ ROWS = [
 ]
 
 # What the header has beside the declarations, which is C and not proved: model_test.c is compiled with each of these.
+FRESH_OF_INIT = (
+    "    return moesi_fresh(m->ports, m->sets, m->lines, m->scratch_first, m->scratch_count, m->device_first,\n"
+    "                       m->device_count, m->memory, m->sizes.memory, m->tags, m->sizes.tags, m->states, m->sizes.states,\n"
+    "                       m->data, m->sizes.data);\n")
+STEP_OF_STRUCT = (
+    "    moesi_step(m->ports, m->sets, m->lines, m->scratch_first, m->scratch_count, m->device_first, m->device_count,\n"
+    "               word, operand, ")
+STEP_REST = (
+    "m->memory, m->sizes.memory, m->tags, m->sizes.tags, m->states, m->sizes.states, m->data,\n"
+    "               m->sizes.data, bytes, sizeof bytes);\n")
+TOTALS_OF_STRUCT = (
+    "    moesi_step_totals(m->ports, m->sets, m->lines, m->scratch_first, m->scratch_count, m->device_first,\n"
+    "                      m->device_count, word, operand, m->memory,")
+AUDIT_OF_STRUCT = (
+    "    moesi_audit(m->ports, m->sets, m->lines, m->scratch_first, m->scratch_count, m->device_first, m->device_count,\n")
+REFUSAL_OF_STRUCT = (
+    "    uint64_t refusal = moesi_step(m->ports, m->sets, m->lines, m->scratch_first, m->scratch_count, m->device_first,\n"
+    "                                  m->device_count, 7, 0, m->memory,")
+REFUSAL_HANDED_ON = "    return refusal == MOESI_REFUSED_KIND ? MOESI_ACCEPTED : refusal;\n"
+SET_SCRATCH = "    m->scratch_first = first;\n    m->scratch_count = count;\n    return moesi_model_refusal(m);\n"
+SET_DEVICE = "    m->device_first = first;\n    m->device_count = count;\n    return moesi_model_refusal(m);\n"
+EMPTIED = ("    m->scratch_first = 0;\n    m->scratch_count = 0;\n    m->device_first = 0;\n    m->device_count = 0;\n"
+           "    m->memory = memory;\n")
+
+
+def other_ranges(call, **numbers):
+    """A call of the struct with other numbers for some of those of its ranges."""
+    return re.sub(r"m->(\w+_(?:first|count))", lambda found: numbers.get(found[1], found[0]), call)
+
+
+def without(call, *ranges):
+    """A call of the struct with ranges that are empty."""
+    return other_ranges(call, **{f"{name}_{number}": "0" for name in ranges for number in ("first", "count")})
+
+
+def turned(call, name):
+    """A call of the struct with first line and count of a range in each other's place."""
+    return other_ranges(call, **{f"{name}_first": f"m->{name}_count", f"{name}_count": f"m->{name}_first"})
+
+
+def exchanged(call):
+    """A call of the struct with the two ranges in each other's place."""
+    return other_ranges(call, scratch_first="m->device_first", scratch_count="m->device_count",
+                        device_first="m->scratch_first", device_count="m->scratch_count")
+
+
 HEADER = [
     # Where the bytes are.
     ("the room of a shape forgets the states",
@@ -1714,22 +2198,13 @@ HEADER = [
     ("open clears the tables",
      "    m->sizes = sizes;\n    return",
      "    m->sizes = sizes;\n    while (room_len > 0)\n        room[--room_len] = 0;\n    return"),
-    ("init doesn't clear the tables",
-     "    return moesi_fresh(m->ports, m->sets, m->lines, m->memory, m->sizes.memory, m->tags, m->sizes.tags, m->states,\n"
-     "                       m->sizes.states, m->data, m->sizes.data);",
-     "    return MOESI_ACCEPTED;"),
+    ("init doesn't clear the tables", FRESH_OF_INIT, "    return MOESI_ACCEPTED;"),
     ("init clears memory",
      "    if (refusal != MOESI_ACCEPTED)\n        return refusal;\n    return moesi_fresh",
      "    if (refusal != MOESI_ACCEPTED)\n        return refusal;\n    memory[0] = 0;\n    return moesi_fresh"),
     # Step and audit.
-    ("a step drops the operand",
-     "    moesi_step(m->ports, m->sets, m->lines, word, operand, m->memory",
-     "    moesi_step(m->ports, m->sets, m->lines, word, 0, m->memory"),
-    ("a step tries the order twice",
-     "    uint8_t bytes[MOESI_ANSWER_BYTES];\n\n    moesi_step(",
-     "    uint8_t bytes[MOESI_ANSWER_BYTES];\n\n"
-     "    moesi_step(m->ports, m->sets, m->lines, word, operand, m->memory, m->sizes.memory, m->tags, m->sizes.tags,\n"
-     "               m->states, m->sizes.states, m->data, m->sizes.data, bytes, sizeof bytes);\n    moesi_step("),
+    ("a step drops the operand", STEP_OF_STRUCT, STEP_OF_STRUCT.replace("operand", "0")),
+    ("a step tries the order twice", STEP_OF_STRUCT + STEP_REST, 2 * (STEP_OF_STRUCT + STEP_REST)),
     ("the audit's verdict turned round",
      "    return verdict == 1;",
      "    return verdict != 1;"),
@@ -1863,8 +2338,7 @@ HEADER = [
      "bytes, sizeof bytes, record, record_len - 1);"),
     ("a step with a record lends none", "bytes, sizeof bytes, record, record_len);", "bytes, sizeof bytes, NULL, 0);"),
     ("a step with a record drops the operand",
-     "    moesi_step_totals(m->ports, m->sets, m->lines, word, operand, m->memory,",
-     "    moesi_step_totals(m->ports, m->sets, m->lines, word, 0, m->memory,"),
+     TOTALS_OF_STRUCT, TOTALS_OF_STRUCT.replace("operand", "0")),
     ("a step with a record is made twice",
      "    moesi_step_totals(m->ports,",
      "    moesi_model_step(m, word, operand);\n    moesi_step_totals(m->ports,"),
@@ -1872,6 +2346,84 @@ HEADER = [
      "    moesi_step_totals(m->ports,",
      "    if (record_len == MOESI_RECORD_BYTES)\n        return moesi_model_step(m, word, operand);\n"
      "    moesi_step_totals(m->ports,"),
+    # Ranges: what open and init leave.
+    ("open leaves the ranges", EMPTIED, "    m->memory = memory;\n"),
+    ("open leaves the scratch range", EMPTIED, EMPTIED.replace("    m->scratch_first = 0;\n    m->scratch_count = 0;\n", "")),
+    ("open leaves the device range", EMPTIED, EMPTIED.replace("    m->device_first = 0;\n    m->device_count = 0;\n", "")),
+    *((f"open leaves {name}", EMPTIED, EMPTIED.replace(f"    m->{member} = 0;\n", ""))
+      for name, member in (("scratch's first line", "scratch_first"), ("scratch's count", "scratch_count"),
+                           ("the device range's first line", "device_first"), ("the device range's count", "device_count"))),
+    ("open takes all of memory for scratch", EMPTIED, EMPTIED.replace("scratch_count = 0", "scratch_count = lines")),
+    ("open takes all of memory for the device range", EMPTIED, EMPTIED.replace("device_count = 0", "device_count = lines")),
+    ("a refused open empties the ranges",
+     "    if (!moesi_shape_in_range(ports, sets, lines))\n        return MOESI_REFUSED_SHAPE;\n    if (memory == NULL",
+     "    m->scratch_count = m->device_count = 0;\n    if (!moesi_shape_in_range(ports, sets, lines))\n"
+     "        return MOESI_REFUSED_SHAPE;\n    if (memory == NULL"),
+    ("a refused length empties the ranges",
+     "        return MOESI_REFUSED_SHAPE;\n    if (memory == NULL",
+     "        return MOESI_REFUSED_SHAPE;\n    m->device_first = m->scratch_first = 0;\n    if (memory == NULL"),
+    ("the refusal of a range has another number", "#define MOESI_REFUSED_RANGE 12u", "#define MOESI_REFUSED_RANGE 13u"),
+    # What the calls are given.
+    *((f"{name} {what}", call, change(call))
+      for name, call in (("a step", STEP_OF_STRUCT), ("a step with a record", TOTALS_OF_STRUCT))
+      for what, change in (
+          ("has no ranges", lambda call: without(call, "scratch", "device")),
+          ("has no scratch range", lambda call: without(call, "scratch")),
+          ("has no device range", lambda call: without(call, "device")),
+          ("takes the device range for scratch too", lambda call: other_ranges(
+              call, scratch_first="m->device_first", scratch_count="m->device_count")),
+          ("takes scratch for the device range too", lambda call: other_ranges(
+              call, device_first="m->scratch_first", device_count="m->scratch_count")),
+          ("takes one range for the other", exchanged),
+          ("takes scratch's first line for its count", lambda call: turned(call, "scratch")),
+          ("takes the device range's first line for its count", lambda call: turned(call, "device")),
+          ("takes scratch's count for the device range's", lambda call: other_ranges(
+              call, scratch_count="m->device_count", device_count="m->scratch_count")))),
+    *((f"{name} {what}", call, change(call))
+      for name, call in (("the audit", AUDIT_OF_STRUCT), ("the refusal", REFUSAL_OF_STRUCT))
+      for what, change in (
+          ("has no ranges", lambda call: without(call, "scratch", "device")),
+          ("has no scratch range", lambda call: without(call, "scratch")),
+          ("has no device range", lambda call: without(call, "device")),
+          ("takes scratch's first line for its count", lambda call: turned(call, "scratch")),
+          ("takes the device range's first line for its count", lambda call: turned(call, "device")),
+          ("takes scratch's count for the device range's", lambda call: other_ranges(
+              call, scratch_count="m->device_count", device_count="m->scratch_count")))),
+    # The refusal.
+    ("the refusal of a model is 4 where it has none", REFUSAL_HANDED_ON, "    return refusal;\n"),
+    ("a model has no refusal", REFUSAL_HANDED_ON, "    return MOESI_ACCEPTED;\n"),
+    ("a model is always refused", REFUSAL_HANDED_ON, "    return MOESI_REFUSED_RANGE;\n"),
+    ("the refusal of a struct of zeros is not told",
+     REFUSAL_HANDED_ON, REFUSAL_HANDED_ON.replace("== MOESI_REFUSED_KIND", "!= MOESI_REFUSED_RANGE")),
+    ("the refusal is asked for by a flush", REFUSAL_OF_STRUCT, REFUSAL_OF_STRUCT.replace("7, 0,", "3, 0,")),
+    ("the refusal is asked for by a device write", REFUSAL_OF_STRUCT, REFUSAL_OF_STRUCT.replace("7, 0,", "0xFF05, 0,")),
+    ("the refusal is asked for by a read", REFUSAL_OF_STRUCT, REFUSAL_OF_STRUCT.replace("7, 0,", "0, 0,")),
+    # The setters.
+    ("scratch is set for the device range", SET_DEVICE, SET_SCRATCH),
+    ("the device range is set for scratch", SET_SCRATCH, SET_DEVICE),
+    *((f"{name} is set {what}", setter, change(setter))
+      for name, setter in (("scratch", SET_SCRATCH), ("the device range", SET_DEVICE))
+      for what, change in (
+          ("without its first line", lambda setter: setter.split("\n", 1)[1]),
+          ("without its count", lambda setter: re.sub(r".*_count = count;\n", "", setter)),
+          ("with first line and count in each other's place",
+           lambda setter: setter.replace("= first", "= @").replace("= count", "= first").replace("= @", "= count")),
+          ("only if it fits", lambda setter: "    if (m->lines > 0 && count > 0 && (first > m->lines || count > m->lines - first))\n"
+           "        return MOESI_REFUSED_RANGE;\n" + setter),
+          ("and cut to lines", lambda setter: "    if (first < m->lines && count > m->lines - first)\n"
+           "        count = m->lines - first;\n" + setter),
+          ("as empty if it doesn't fit", lambda setter: "    if (m->lines > 0 && (first > m->lines || count > m->lines - first))\n"
+           "        count = 0;\n" + setter),
+          ("and nothing is told", lambda setter: setter.replace("moesi_model_refusal(m)", "MOESI_ACCEPTED")),
+          ("and the tables are cleared", lambda setter: "    for (size_t k = 0; k < m->sizes.states; k++)\n"
+           "        m->states[k] = MOESI_INVALID;\n" + setter),
+          ("with a last line for a count", lambda setter: setter.replace("= count", "= first + count")))),
+    ("scratch is set and the device range emptied", SET_SCRATCH, "    m->device_count = 0;\n" + SET_SCRATCH),
+    ("the device range is set and scratch emptied", SET_DEVICE, "    m->scratch_count = 0;\n" + SET_DEVICE),
+    ("setting scratch tells of scratch alone", SET_SCRATCH, SET_SCRATCH.replace(
+        "return moesi_model_refusal(m)",
+        "if (m->lines > 0 && (count == 0 || (first <= m->lines && count <= m->lines - first)))\n"
+        "        return MOESI_ACCEPTED;\n    return moesi_model_refusal(m)")),
     # Tables of the old edition.
     ("I has another old byte", "#define MOESI_OLD_INVALID 0u", "#define MOESI_OLD_INVALID 5u"),
     ("S and E have the same old byte", "#define MOESI_OLD_SHARED 1u", "#define MOESI_OLD_SHARED 2u"),
@@ -1911,8 +2463,8 @@ HEADER = [
     ("a refused old set leaves a fresh model",
      "    return moesi_from_old(m->ports,",
      "    if (states_len > 0 && states[0] > 4)\n"
-     "        moesi_fresh(m->ports, m->sets, m->lines, m->memory, m->sizes.memory, m->tags, m->sizes.tags, m->states,\n"
-     "                    m->sizes.states, m->data, m->sizes.data);\n    return moesi_from_old(m->ports,"),
+     "        moesi_fresh(m->ports, m->sets, m->lines, 0, 0, 0, 0, m->memory, m->sizes.memory, m->tags, m->sizes.tags,\n"
+     "                    m->states, m->sizes.states, m->data, m->sizes.data);\n    return moesi_from_old(m->ports,"),
     ("a refusal of an old set is not handed on",
      "    return moesi_from_old(m->ports,", "    return MOESI_ACCEPTED & moesi_from_old(m->ports,"),
     ("an old set clears a word of memory",
@@ -1931,14 +2483,17 @@ HEADER = [
 
 
 def edit(name, source, old, new):
-    if source.count(old) != 1:
-        sys.exit(f"mutant '{name}': its text occurs {source.count(old)} times")
-    return source.replace(old, new)
+    """The source with a text in the place of another, which occurs once; or with several, if they are lists."""
+    for one, other in zip(old, new) if isinstance(old, list) else [(old, new)]:
+        if source.count(one) != 1:
+            sys.exit(f"mutant '{name}': its text occurs {source.count(one)} times")
+        source = source.replace(one, other)
+    return source
 
 
 def main():
-    """mutants.py walking|totals|edition|rules|trace|rows|flat|header SOURCE FOLDER, or two sources with the same slip:
-    both|listed|same|counted WALKING SECOND FOLDER, or letters PLAIN SECOND FOLDER.
+    """mutants.py walking|ranges|totals|edition|rules|trace|rows|flat|marks|header SOURCE FOLDER, or two with the same
+    slip: both|listed|same|counted|ranged WALKING SECOND FOLDER, or letters PLAIN SECOND FOLDER.
 
     Prints number and name of each. A header keeps its name, in a folder that has the number.
     """
@@ -1948,7 +2503,7 @@ def main():
     folder.mkdir(parents=True, exist_ok=True)
     lists = {"walking": WALKING, "totals": TOTALS, "trace": TRACE, "rows": ROWS, "both": BOTH, "listed": LISTED,
              "same": SAME, "flat": FLAT, "counted": COUNTED, "edition": EDITION, "letters": LETTERS, "rules": RULES,
-             "header": HEADER}
+             "ranges": RANGES, "ranged": RANGED, "marks": MARKS, "header": HEADER}
     for number, (name, *edits) in enumerate(lists[which], 1):
         for place, text in enumerate(texts):
             old, new = edits[2 * place:2 * place + 2]

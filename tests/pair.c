@@ -261,22 +261,26 @@ static uint64_t call_library(struct pair *pair, enum call call, struct second_sh
 {
     struct lent *memory = &pair->slices[MEMORY], *tags = &pair->slices[TAGS], *states = &pair->slices[STATES],
                 *data = &pair->slices[DATA], *result = &pair->slices[RESULT], *record = &pair->slices[RECORD];
+    struct second_range scratch = shape.scratch, device = shape.device;
 
     if (is_conversion(call))
         return call_conversion(pair, call, shape);
     if (call == FRESH)
-        return moesi_fresh(shape.ports, shape.sets, shape.lines, memory->bytes, memory->length, tags->bytes,
-                           tags->length, states->bytes, states->length, data->bytes, data->length);
+        return moesi_fresh(shape.ports, shape.sets, shape.lines, scratch.first, scratch.count, device.first,
+                           device.count, memory->bytes, memory->length, tags->bytes, tags->length, states->bytes,
+                           states->length, data->bytes, data->length);
     if (call == STEP)
-        return moesi_step(shape.ports, shape.sets, shape.lines, word, operand, memory->bytes, memory->length,
-                          tags->bytes, tags->length, states->bytes, states->length, data->bytes, data->length,
-                          result->bytes, result->length);
+        return moesi_step(shape.ports, shape.sets, shape.lines, scratch.first, scratch.count, device.first,
+                          device.count, word, operand, memory->bytes, memory->length, tags->bytes, tags->length,
+                          states->bytes, states->length, data->bytes, data->length, result->bytes, result->length);
     if (call == STEP_TOTALS)
-        return moesi_step_totals(shape.ports, shape.sets, shape.lines, word, operand, memory->bytes, memory->length,
-                                 tags->bytes, tags->length, states->bytes, states->length, data->bytes, data->length,
+        return moesi_step_totals(shape.ports, shape.sets, shape.lines, scratch.first, scratch.count, device.first,
+                                 device.count, word, operand, memory->bytes, memory->length, tags->bytes,
+                                 tags->length, states->bytes, states->length, data->bytes, data->length,
                                  result->bytes, result->length, record->bytes, record->length);
-    return moesi_audit(shape.ports, shape.sets, shape.lines, memory->bytes, memory->length, tags->bytes, tags->length,
-                       states->bytes, states->length, data->bytes, data->length, result->bytes, result->length);
+    return moesi_audit(shape.ports, shape.sets, shape.lines, scratch.first, scratch.count, device.first, device.count,
+                       memory->bytes, memory->length, tags->bytes, tags->length, states->bytes, states->length,
+                       data->bytes, data->length, result->bytes, result->length);
 }
 
 /* The comparison. */
@@ -445,6 +449,38 @@ static void count_conversion(const struct pair *pair, struct tally *tally, enum 
     }
 }
 
+static int ends_beyond(struct second_range range, uint64_t lines)
+{
+    return range.count > lines || (range.count > 0 && range.first > lines - range.count);
+}
+
+/* Counts a range of a call: refused for a sum that wraps, empty beyond lines, or up to the last line. */
+static void count_range(struct tally *tally, int device, struct second_range range, uint64_t lines, uint64_t refusal)
+{
+    uint64_t sum = range.first + range.count;
+
+    tally->wraps[device] += refusal == 12 && range.count > 0 && sum < range.first && sum <= lines;
+    tally->empty_beyond[device] += refusal == 0 && range.count == 0 && range.first > lines;
+    tally->to_the_end[device] += refusal == 0 && range.count > 0 && sum == lines;
+}
+
+/* Counts what the ranges of a call met; lines is in its limits unless the call is refused 2. */
+static void count_ranges(struct tally *tally, enum call call, struct second_shape shape, uint64_t word,
+                         uint64_t refusal)
+{
+    unsigned beyond = (ends_beyond(shape.scratch, shape.lines) ? IN_SCRATCH : 0) |
+                      (ends_beyond(shape.device, shape.lines) ? IN_DEVICE : 0);
+
+    if (refusal == 12)
+        tally->twelves[call][beyond]++;
+    if (refusal == 12 && is_step(call))
+        tally->twelve_first[second_order_refusal(shape, second_take_apart(word, 0))]++;
+    if (refusal != 12 && beyond != 0)
+        tally->other_first[call][refusal]++;
+    count_range(tally, 0, shape.scratch, shape.lines, refusal);
+    count_range(tally, 1, shape.device, shape.lines, refusal);
+}
+
 static void count(struct pair *pair, enum call call, struct second_shape shape, uint64_t word)
 {
     uint64_t refusal = pair->expected.refusal;
@@ -458,6 +494,8 @@ static void count(struct pair *pair, enum call call, struct second_shape shape, 
         count_totals(pair, &pair->tally, word);
     if (is_conversion(call))
         count_conversion(pair, &pair->tally, call, shape);
+    else
+        count_ranges(&pair->tally, call, shape, word, refusal);
     if (call == AUDIT)
         pair->tally.audit_refusals[refusal]++;
     if (call == AUDIT && refusal == 0)

@@ -29,12 +29,18 @@ enum call { FRESH, STEP, AUDIT, STEP_TOTALS, FROM_OLD, TO_OLD };
 /* The state bytes from I to M, counted from 0. */
 enum { TALLY_STATES = 7 };
 
+/* Which of the two ranges a line is in, or which end beyond lines. */
+enum { IN_NEITHER, IN_SCRATCH, IN_DEVICE, IN_BOTH, PLACES };
+
+/* One more than the highest refusal. */
+enum { REFUSALS = 13 };
+
 /* What the calls have met, so that a run can show that it met everything. */
 struct tally {
     uint64_t calls;
-    uint64_t fresh_refusals[9];
-    uint64_t step_refusals[9];
-    uint64_t audit_refusals[9];
+    uint64_t fresh_refusals[REFUSALS];
+    uint64_t step_refusals[REFUSALS];
+    uint64_t audit_refusals[REFUSALS];
     uint64_t kinds[SECOND_KINDS];
     uint64_t swapped;
     uint64_t reads[2];
@@ -49,9 +55,9 @@ struct tally {
     /* In histories: writes and swaps that succeed, by what they met. */
     uint64_t stores[2][TALLY_STATES][SECOND_OTHERS][2][2][2]; /* from fresh, own state, others, mode, swap, changed */
     uint64_t same_masks[3];    /* of those that stored the same: 0x00, 0xFF, any other */
-    uint64_t same_refused[10]; /* refused orders that would have stored the same, by refusal */
+    uint64_t same_refused[REFUSALS]; /* refused orders that would have stored the same, by refusal */
     /* In steps with a record. */
-    uint64_t totals_refusals[10];
+    uint64_t totals_refusals[REFUSALS];
     uint64_t totals_kinds[SECOND_KINDS];
     uint64_t totals_swaps[2];  /* swaps that failed and that succeeded */
     uint64_t totals_writes[3]; /* accepted orders by their memory writes */
@@ -72,6 +78,18 @@ struct tally {
     uint64_t old_rules[SECOND_RULES];   /* that break that rule alone */
     uint64_t stepped;                   /* orders on sets that passed the audit */
     uint64_t stepped_back[2];           /* afterwards to old: accepted, refused 11 */
+    /* Ranges, in calls of fresh, step, audit and step with a record. */
+    uint64_t twelves[4][PLACES];        /* refused 12, by call and by what ends beyond lines */
+    uint64_t other_first[4][REFUSALS];  /* refused 9, 2 or 3 although a range ends beyond lines */
+    uint64_t twelve_first[8];           /* steps refused 12 whose order has refusal 4 to 7 too */
+    uint64_t wraps[2];                  /* refused 12 for a sum of 64 bits that is at most lines: scratch, device */
+    uint64_t empty_beyond[2];           /* not refused with an empty range that starts beyond lines */
+    uint64_t to_the_end[2];             /* not refused with a range that ends with the last line */
+    /* Accepted accesses in histories: reads, writes and swaps. */
+    uint64_t ranged[2][PLACES][2][3];   /* from fresh, by place, the order's mode and kind */
+    uint64_t edges[2][4];               /* before a range, on its first line, on its last, behind it */
+    uint64_t changed_ranges;            /* orders under other ranges than the order before */
+    uint64_t device_range_reads;        /* device reads in the device range, compared with the flat word */
 };
 
 struct pair {

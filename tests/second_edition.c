@@ -58,10 +58,10 @@ static uint64_t tables_refusal(struct second_shape shape, struct second_lengths 
 {
     lengths.memory = second_lengths_of(shape, 0).memory;
     lengths.result = 0;
-    return second_call_refusal(shape, lengths, 0);
+    return second_sizes_refusal(shape, lengths, 0);
 }
 
-/* "Shape and lengths keep refusals 2 and 3." */
+/* "Shape and lengths keep refusals 2 and 3." Order 6: "The conversion of order 5 takes no ranges." */
 uint64_t second_conversion_refusal(struct second_shape shape, struct second_lengths from, struct second_lengths to)
 {
     uint64_t refusal = tables_refusal(shape, from);

@@ -13,7 +13,7 @@ struct second_tables {
 };
 
 /* Refusal 2 of a shape, else refusal 3 of the input tables' lengths and the output tables'; 0 if none. A conversion has
-   neither memory nor a result, so that these two lengths are not looked at. */
+   neither memory nor a result, so that these two lengths are not looked at, nor are the ranges. */
 uint64_t second_conversion_refusal(struct second_shape shape, struct second_lengths from, struct second_lengths to);
 
 /* The conversions beyond refusals 2 and 3: give 10, 11 or 0. A refused one leaves the output tables as they were. */

@@ -44,6 +44,23 @@ static int has_port(struct second_order order)
     return order.kind != SECOND_DEVICE_READ && order.kind != SECOND_DEVICE_WRITE;
 }
 
+/* Document 02's order 6: "two ranges, each a first line and a count, where a count of 0 is an empty range". */
+int second_has_line(struct second_range range, uint64_t line)
+{
+    return line >= range.first && line - range.first < range.count;
+}
+
+enum second_mode second_mode_in_force(struct second_shape shape, struct second_order order)
+{
+    /* "The scratch range is looked up first." */
+    if (second_has_line(shape.scratch, order.line))
+        return SECOND_BACK;
+    if (second_has_line(shape.device, order.line))
+        return SECOND_THROUGH;
+    /* "elsewhere the order's mode stands" */
+    return order.mode;
+}
+
 uint64_t second_order_refusal(struct second_shape shape, struct second_order order)
 {
     /* "Refusal 4 is left for kinds 6 and 7." */
@@ -410,12 +427,14 @@ static void flush(struct second_model *model, struct holding *holding, struct ho
     put_holders_back(model, holding);
 }
 
-/* An order by a port. */
+/* An order by a port. A flush has no mode; "inside the scratch range every order runs write back, inside the device
+   range write through". */
 static void by_port(struct second_model *model, struct holding *holding, struct second_order order,
                     struct second_answer *answer)
 {
     struct holder *own = own_holder(holding, order.port);
 
+    order.mode = second_mode_in_force(model->shape, order);
     if (order.kind == SECOND_FLUSH)
         flush(model, holding, own, answer);
     else if (own != NULL)
@@ -581,7 +600,7 @@ int second_audit(const struct second_model *model)
     return 1;
 }
 
-/* Refusals 2 and 3. */
+/* Refusals 2, 3 and 12. */
 
 static int sets_in_range(uint64_t sets)
 {
@@ -599,7 +618,7 @@ struct second_lengths second_lengths_of(struct second_shape shape, size_t result
     return lengths;
 }
 
-uint64_t second_call_refusal(struct second_shape shape, struct second_lengths lengths, size_t result)
+uint64_t second_sizes_refusal(struct second_shape shape, struct second_lengths lengths, size_t result)
 {
     struct second_lengths due;
 
@@ -615,6 +634,27 @@ uint64_t second_call_refusal(struct second_shape shape, struct second_lengths le
     if (lengths.data != due.data || lengths.result != due.result)
         return 3;
     return 0;
+}
+
+/* "where a range with a count above 0 ends beyond lines": the sum of its numbers may have 65 bits, and is not made. */
+static int ends_beyond(struct second_range range, uint64_t lines)
+{
+    if (range.count == 0)
+        return 0;
+    return range.first > lines || range.count > lines - range.first;
+}
+
+uint64_t second_ranges_refusal(struct second_shape shape)
+{
+    return ends_beyond(shape.scratch, shape.lines) || ends_beyond(shape.device, shape.lines) ? 12 : 0;
+}
+
+/* "12, after 3 and before 4" */
+uint64_t second_call_refusal(struct second_shape shape, struct second_lengths lengths, size_t result)
+{
+    uint64_t refusal = second_sizes_refusal(shape, lengths, result);
+
+    return refusal != 0 ? refusal : second_ranges_refusal(shape);
 }
 
 /* Little-endian bytes. */
@@ -715,11 +755,11 @@ uint64_t second_totals_refusal(struct second_shape shape, struct second_lengths 
         if (decode_word(record + 8 * place) > UINT64_C(18446744073709551613))
             return 9;
     }
-    refusal = second_call_refusal(shape, lengths, SECOND_ANSWER_BYTES);
+    refusal = second_sizes_refusal(shape, lengths, SECOND_ANSWER_BYTES);
     if (refusal != 0)
         return refusal;
-    /* "A record of another length is refusal 3". */
-    return record_len == SECOND_RECORD_BYTES ? 0 : 3;
+    /* "A record of another length is refusal 3", and 12 comes after 3. */
+    return record_len == SECOND_RECORD_BYTES ? second_ranges_refusal(shape) : 3;
 }
 
 uint64_t second_adds(unsigned place, uint64_t word, struct second_answer answer)

@@ -1,4 +1,4 @@
-/* The second model: documents 01 and 02 (orders 1, 2, 4) in plain C: a line and its holders at a time, own arrays. */
+/* The second model: documents 01 and 02 (orders 1, 2, 4, 6) in plain C, a line and its holders at a time, own arrays. */
 
 #ifndef SECOND_MODEL_H
 #define SECOND_MODEL_H
@@ -15,10 +15,18 @@ enum {
     SECOND_VERDICT_BYTES = 1
 };
 
+/* A range of lines: its first line and how many they are. With a count of 0 it is empty, wherever it starts. */
+struct second_range {
+    uint64_t first;
+    uint64_t count;
+};
+
 struct second_shape {
     uint64_t ports;
     uint64_t sets;
     uint64_t lines;
+    struct second_range scratch;
+    struct second_range device;
 };
 
 /* The lengths in bytes of the slices of a call: main memory, the three tables, and the answer or the verdict. */
@@ -30,7 +38,7 @@ struct second_lengths {
     size_t result;
 };
 
-/* Main memory and the three tables, decoded. The shape must be in its range. */
+/* Main memory and the three tables, decoded. The shape must be in its limits, and its ranges within lines. */
 struct second_model {
     struct second_shape shape;
     uint64_t memory[SECOND_MAX_LINES];
@@ -84,6 +92,12 @@ struct second_answer {
 /* The fields of an order word. */
 struct second_order second_take_apart(uint64_t word, uint64_t operand);
 
+/* Whether a range has the line. */
+int second_has_line(struct second_range range, uint64_t line);
+
+/* The mode in which an access runs: by the ranges where its line is in one, else by the order. */
+enum second_mode second_mode_in_force(struct second_shape shape, struct second_order order);
+
 /* Refusals 4 to 7, from the shape and the order alone; 0 if none. */
 uint64_t second_order_refusal(struct second_shape shape, struct second_order order);
 
@@ -96,18 +110,25 @@ int second_merge_changes(uint64_t word, uint64_t operand, unsigned mask);
 /* Whether a swap finds its compare value in the half that its mask names. */
 int second_swap_succeeds(struct second_order order, uint64_t word);
 
-/* Refusal 2 of a shape, else refusal 3 of the lengths of a call whose result slice has result bytes; 0 if none. */
+/* Refusal 2 of a shape, else refusal 3 of the lengths of a call whose result slice has result bytes; 0 if none. The
+   ranges are not looked at. */
+uint64_t second_sizes_refusal(struct second_shape shape, struct second_lengths lengths, size_t result);
+
+/* Refusal 12 of the ranges of a shape; 0 if none. */
+uint64_t second_ranges_refusal(struct second_shape shape);
+
+/* The first of refusals 2, 3 and 12 of fresh, a step or an audit; 0 if none. */
 uint64_t second_call_refusal(struct second_shape shape, struct second_lengths lengths, size_t result);
 
-/* The lengths that a shape in its range gives; the result's is the caller's to say. */
+/* The lengths that a shape in its limits gives; the result's is the caller's to say. */
 struct second_lengths second_lengths_of(struct second_shape shape, size_t result);
 
-/* The three calls on a shape in its range, beyond refusals 2 and 3. */
+/* The three calls on a shape that is not refused, beyond refusals 2, 3 and 12. */
 void second_fresh(struct second_model *model);
 struct second_answer second_step(struct second_model *model, uint64_t word, uint64_t operand);
 int second_audit(const struct second_model *model);
 
-/* The first of refusals 9, 2 and 3 of a step with a record, from the slices' lengths and the totals; 0 if none. */
+/* The first of refusals 9, 2, 3 and 12 of a step with a record, from the slices' lengths and the totals; 0 if none. */
 uint64_t second_totals_refusal(struct second_shape shape, struct second_lengths lengths, const uint8_t *record,
                                size_t record_len);
 

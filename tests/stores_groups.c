@@ -330,7 +330,7 @@ static uint64_t word_of(char letter, uint64_t merged)
 
 static void put_before(const struct before *before, struct second_model *start)
 {
-    static const struct second_shape shape = {3, 1, 2};
+    static const struct second_shape shape = SHAPE(3, 1, 2);
 
     start->shape = shape;
     for (unsigned port = 0; port < 3; port++) {
@@ -454,7 +454,7 @@ static struct history_order store_of(struct generator *generator, uint64_t word,
     static const unsigned masks[4] = {0xFF, 0x00, 0x01, 0x80};
     unsigned often = masks[generator_below(generator, 4)], any = generator_below(generator, 512);
     unsigned mask = any < 256 ? any : often;
-    struct history_order order;
+    struct history_order order = {0, 0, 0};
 
     if (changed && mask == 0)
         mask = 0xFF;
@@ -501,7 +501,7 @@ static int prepared_store(struct tester *tester, const struct preparation *prepa
     struct generator *generator = &tester->generator;
     unsigned ports = (unsigned)tester->traffic.shape.ports, port = generator_below(generator, ports);
     unsigned line = tester->traffic.hot[generator_below(generator, tester->traffic.hot_count)];
-    struct history_order order = {0xFF00 | SECOND_DEVICE_WRITE, generator_word(generator)};
+    struct history_order order = {0xFF00 | SECOND_DEVICE_WRITE, generator_word(generator), 0};
 
     if (!add_for(tester, order, 0, 0, line))
         return 0;
@@ -548,9 +548,9 @@ static int stays_clean(struct tester *tester, const struct poller *poller, struc
    write back it has write-back E, the mark is 1, and the flush stores nothing. */
 static int polling_loop(struct tester *tester)
 {
-    static const struct history_order read = {SECOND_READ, 0}, flush = {SECOND_FLUSH, 0};
+    static const struct history_order read = {SECOND_READ, 0, 0}, flush = {SECOND_FLUSH, 0, 0};
     struct generator *generator = &tester->generator;
-    struct history_order device_write = {0xFF00 | SECOND_DEVICE_WRITE, generator_word(generator)};
+    struct history_order device_write = {0xFF00 | SECOND_DEVICE_WRITE, generator_word(generator), 0};
     unsigned line = tester->traffic.hot[generator_below(generator, tester->traffic.hot_count)];
     struct poller poller = {generator_below(generator, tester->traffic.shape.ports), line, device_write.operand};
     unsigned mode = generator_below(generator, 2);
@@ -572,12 +572,14 @@ static int polling_loop(struct tester *tester)
     return stays_clean(tester, &poller, flush, generator_below(generator, 2), 0);
 }
 
-/* Run r and its round say which stores are made, so that all come up on all that they may meet. */
+/* Run r and its round say which stores are made, so that all come up on all that they may meet: in the mode that they
+   say, so without ranges. */
 int stores_in_histories(struct tester *tester, uint64_t run)
 {
     struct generator *generator = &tester->generator;
+    struct second_shape shape = run % 4 < 3 ? traffic_small_shape(generator) : traffic_any_shape(generator);
 
-    begin_traffic(tester, run % 4 < 3 ? traffic_small_shape(generator) : traffic_any_shape(generator));
+    begin_traffic(tester, traffic_without_ranges(shape));
     traffic_fill_tables(generator, &tester->history.start);
     tester->history.fresh = 1;
     if (!history_begin(&tester->history, &tester->pair))

@@ -21,6 +21,9 @@ struct tester {
     struct traffic traffic;
 };
 
+/* A shape with empty ranges, in a list. */
+#define SHAPE(ports, sets, lines) {ports, sets, lines, {0, 0}, {0, 0}}
+
 /* Says what a call outside a history showed; gives 0. */
 int report_call(struct tester *tester, const char *what, struct second_shape shape, uint64_t word, uint64_t operand);
 
@@ -56,6 +59,14 @@ int run_history(struct tester *tester, int fresh, size_t orders);
 /* A failed history: cut down, then printed; gives 0. */
 int report_history(struct tester *tester);
 
+/* Keeps memory and tables as they are lent; whether they are still so, or again. */
+void keep_lent(const struct pair *pair);
+int lent_is_kept(const struct pair *pair);
+
+/* Places a record of any length up to 96 bytes, often of 80; and an answer of any length, mostly of 40. */
+void place_some_record(struct tester *tester);
+void place_some_answer(struct tester *tester);
+
 /* Places slices again, those whose bit is set in wrong (memory or a table), mostly with other lengths. */
 void misplace(struct tester *tester, unsigned wrong);
 
@@ -65,6 +76,16 @@ struct second_shape out_of_range(struct generator *generator, struct second_shap
 /* The groups on stores that store the same: numbers worked out by hand (run 0 and 1), and stores in histories. */
 int stores_numbers(struct tester *tester, uint64_t run);
 int stores_in_histories(struct tester *tester, uint64_t run);
+
+/* The groups on ranges: numbers worked out by hand, ranges against orders in the mode in force, refusals, what a device
+   reads, ranges that change, and empty ones. */
+enum { RANGES_PARTS = 4 };
+int ranges_numbers(struct tester *tester, uint64_t run);
+int ranges_are_modes(struct tester *tester, uint64_t run);
+int ranges_refused(struct tester *tester, uint64_t run);
+int ranges_device(struct tester *tester, uint64_t run);
+int ranges_change(struct tester *tester, uint64_t run);
+int ranges_empty(struct tester *tester, uint64_t run);
 
 /* The groups on totals: numbers worked out by hand (run 0 to 2), sums over histories, any records, other lengths. */
 int totals_numbers(struct tester *tester, uint64_t run);

@@ -19,7 +19,7 @@ static uint64_t total_at(const struct pair *pair, size_t place)
 /* Memory and tables as they were lent at some point. */
 static uint8_t kept[4][8 * SECOND_MAX_LINES];
 
-static void keep(const struct pair *pair)
+void keep_lent(const struct pair *pair)
 {
     for (int s = MEMORY; s <= DATA; s++) {
         if (pair->slices[s].length > 0)
@@ -27,7 +27,7 @@ static void keep(const struct pair *pair)
     }
 }
 
-static int are_kept(const struct pair *pair)
+int lent_is_kept(const struct pair *pair)
 {
     for (int s = MEMORY; s <= DATA; s++) {
         if (pair->slices[s].length > 0 && memcmp(kept[s], pair->slices[s].bytes, pair->slices[s].length) != 0)
@@ -136,95 +136,119 @@ struct totals_case {
 #define M 0xFFFFFFFFFFFFFFFF
 #define FITTING {16, 8, 2, 16, 40, 80}
 #define REFUSED {0, 0, 0, 0, 0, 0, 1, 0, 0, 0}
+#define BEYOND_SCRATCH {2, 1, 2, {1, 2}, {0, 2}}
+#define BEYOND_DEVICE {2, 1, 2, {3, 0}, {M, 1}}
 #define NOWHERE {0, 0, 0, 0, 0, 0, 0, 0, 0, 0}
 
 static const struct totals_case totals_case_list[] = {
     /* Each kind, accepted; swaps that succeed and fail; orders that store. */
-    {{2, 1, 2}, FITTING, 0, 0x08, TOTALS, {0, 5, 0, 1, 0}, {1, 0, 0, 0, 0, 0, 0, 1, 0, 0}},
-    {{2, 1, 2}, FITTING, 0, 0xFF09, TOTALS, {0, 0, 0, 1, 0}, {0, 1, 0, 0, 0, 0, 0, 1, 0, 0}},
-    {{2, 1, 2}, FITTING, 0, 0xFF01, TOTALS, {0, 0, 0, 1, 1}, {0, 1, 0, 0, 0, 0, 0, 1, 1, 0}},
-    {{2, 1, 2}, FITTING, 0, 0x0000000500000F0A, TOTALS, {0, 5, 1, 1, 0}, {0, 0, 1, 0, 0, 0, 0, 1, 0, 1}},
-    {{2, 1, 2}, FITTING, 0, 0x0000000500000F02, TOTALS, {0, 5, 1, 1, 1}, {0, 0, 1, 0, 0, 0, 0, 1, 1, 1}},
-    {{2, 1, 2}, FITTING, 0, 0x0000000600000F02, TOTALS, {0, 5, 0, 1, 0}, {0, 0, 1, 0, 0, 0, 0, 1, 0, 0}},
-    {{2, 1, 2}, FITTING, 0, 0x03, TOTALS, {0, 0, 0, 0, 0}, {0, 0, 0, 1, 0, 0, 0, 0, 0, 0}},
-    {{2, 1, 2}, FITTING, 0, 0x04, TOTALS, {0, 5, 0, 1, 0}, {0, 0, 0, 0, 1, 0, 0, 1, 0, 0}},
-    {{2, 1, 2}, FITTING, 0, 0xFF05, TOTALS, {0, 0, 0, 1, 1}, {0, 0, 0, 0, 0, 1, 0, 1, 1, 0}},
-    {{2, 1, 2}, FITTING, 3, 0x04, TOTALS, {0, 5, 0, 1, 0}, {0, 0, 0, 0, 1, 0, 0, 1, 0, 0}},
+    {SHAPE(2, 1, 2), FITTING, 0, 0x08, TOTALS, {0, 5, 0, 1, 0}, {1, 0, 0, 0, 0, 0, 0, 1, 0, 0}},
+    {SHAPE(2, 1, 2), FITTING, 0, 0xFF09, TOTALS, {0, 0, 0, 1, 0}, {0, 1, 0, 0, 0, 0, 0, 1, 0, 0}},
+    {SHAPE(2, 1, 2), FITTING, 0, 0xFF01, TOTALS, {0, 0, 0, 1, 1}, {0, 1, 0, 0, 0, 0, 0, 1, 1, 0}},
+    {SHAPE(2, 1, 2), FITTING, 0, 0x0000000500000F0A, TOTALS, {0, 5, 1, 1, 0}, {0, 0, 1, 0, 0, 0, 0, 1, 0, 1}},
+    {SHAPE(2, 1, 2), FITTING, 0, 0x0000000500000F02, TOTALS, {0, 5, 1, 1, 1}, {0, 0, 1, 0, 0, 0, 0, 1, 1, 1}},
+    {SHAPE(2, 1, 2), FITTING, 0, 0x0000000600000F02, TOTALS, {0, 5, 0, 1, 0}, {0, 0, 1, 0, 0, 0, 0, 1, 0, 0}},
+    {SHAPE(2, 1, 2), FITTING, 0, 0x03, TOTALS, {0, 0, 0, 0, 0}, {0, 0, 0, 1, 0, 0, 0, 0, 0, 0}},
+    {SHAPE(2, 1, 2), FITTING, 0, 0x04, TOTALS, {0, 5, 0, 1, 0}, {0, 0, 0, 0, 1, 0, 0, 1, 0, 0}},
+    {SHAPE(2, 1, 2), FITTING, 0, 0xFF05, TOTALS, {0, 0, 0, 1, 1}, {0, 0, 0, 0, 0, 1, 0, 1, 1, 0}},
+    {SHAPE(2, 1, 2), FITTING, 3, 0x04, TOTALS, {0, 5, 0, 1, 0}, {0, 0, 0, 0, 1, 0, 0, 1, 0, 0}},
     /* Refusals 4 to 8 are counted as refused, and nowhere else. */
-    {{2, 1, 2}, FITTING, 0, 0xFF06, TOTALS, {4, 0, 0, 0, 0}, REFUSED},
-    {{2, 1, 2}, FITTING, 0, 0xFF07, TOTALS, {4, 0, 0, 0, 0}, REFUSED},
-    {{2, 1, 2}, FITTING, 0, 0x20, TOTALS, {5, 0, 0, 0, 0}, REFUSED},
-    {{2, 1, 2}, FITTING, 0, 0xFF21, TOTALS, {5, 0, 0, 0, 0}, REFUSED},
-    {{2, 1, 2}, FITTING, 0, 0x20004, TOTALS, {6, 0, 0, 0, 0}, REFUSED},
-    {{2, 1, 2}, FITTING, 0, 0x2FF05, TOTALS, {6, 0, 0, 0, 0}, REFUSED},
-    {{2, 1, 2}, FITTING, 0, 0x000000050000FF02, TOTALS, {7, 0, 0, 0, 0}, REFUSED},
-    {{2, 1, 2}, FITTING, 3, 0x08, TOTALS, {8, 0, 0, 0, 0}, REFUSED},
-    {{2, 1, 2}, FITTING, 3, 0x03, TOTALS, {8, 0, 0, 0, 0}, REFUSED},
-    {{2, 1, 2}, FITTING, 3, 0xFF05, TOTALS, {8, 0, 0, 0, 0}, REFUSED},
+    {SHAPE(2, 1, 2), FITTING, 0, 0xFF06, TOTALS, {4, 0, 0, 0, 0}, REFUSED},
+    {SHAPE(2, 1, 2), FITTING, 0, 0xFF07, TOTALS, {4, 0, 0, 0, 0}, REFUSED},
+    {SHAPE(2, 1, 2), FITTING, 0, 0x20, TOTALS, {5, 0, 0, 0, 0}, REFUSED},
+    {SHAPE(2, 1, 2), FITTING, 0, 0xFF21, TOTALS, {5, 0, 0, 0, 0}, REFUSED},
+    {SHAPE(2, 1, 2), FITTING, 0, 0x20004, TOTALS, {6, 0, 0, 0, 0}, REFUSED},
+    {SHAPE(2, 1, 2), FITTING, 0, 0x2FF05, TOTALS, {6, 0, 0, 0, 0}, REFUSED},
+    {SHAPE(2, 1, 2), FITTING, 0, 0x000000050000FF02, TOTALS, {7, 0, 0, 0, 0}, REFUSED},
+    {SHAPE(2, 1, 2), FITTING, 3, 0x08, TOTALS, {8, 0, 0, 0, 0}, REFUSED},
+    {SHAPE(2, 1, 2), FITTING, 3, 0x03, TOTALS, {8, 0, 0, 0, 0}, REFUSED},
+    {SHAPE(2, 1, 2), FITTING, 3, 0xFF05, TOTALS, {8, 0, 0, 0, 0}, REFUSED},
     /* So are 2, and 3 of memory and of the tables. */
-    {{0, 1, 2}, FITTING, 0, 0x08, TOTALS, {2, 0, 0, 0, 0}, REFUSED},
-    {{9, 1, 2}, FITTING, 0, 0x08, TOTALS, {2, 0, 0, 0, 0}, REFUSED},
-    {{2, 3, 2}, FITTING, 0, 0x08, TOTALS, {2, 0, 0, 0, 0}, REFUSED},
-    {{2, 1, 4097}, FITTING, 0, 0x04, TOTALS, {2, 0, 0, 0, 0}, REFUSED},
-    {{2, 1, 2}, {15, 8, 2, 16, 40, 80}, 0, 0x08, TOTALS, {3, 0, 0, 0, 0}, REFUSED},
-    {{2, 1, 2}, {16, 9, 2, 16, 40, 80}, 0, 0x08, TOTALS, {3, 0, 0, 0, 0}, REFUSED},
-    {{2, 1, 2}, {16, 8, 0, 16, 40, 80}, 0, 0x08, TOTALS, {3, 0, 0, 0, 0}, REFUSED},
-    {{2, 1, 2}, {16, 8, 2, 24, 40, 80}, 0, 0x08, TOTALS, {3, 0, 0, 0, 0}, REFUSED},
+    {SHAPE(0, 1, 2), FITTING, 0, 0x08, TOTALS, {2, 0, 0, 0, 0}, REFUSED},
+    {SHAPE(9, 1, 2), FITTING, 0, 0x08, TOTALS, {2, 0, 0, 0, 0}, REFUSED},
+    {SHAPE(2, 3, 2), FITTING, 0, 0x08, TOTALS, {2, 0, 0, 0, 0}, REFUSED},
+    {SHAPE(2, 1, 4097), FITTING, 0, 0x04, TOTALS, {2, 0, 0, 0, 0}, REFUSED},
+    {SHAPE(2, 1, 2), {15, 8, 2, 16, 40, 80}, 0, 0x08, TOTALS, {3, 0, 0, 0, 0}, REFUSED},
+    {SHAPE(2, 1, 2), {16, 9, 2, 16, 40, 80}, 0, 0x08, TOTALS, {3, 0, 0, 0, 0}, REFUSED},
+    {SHAPE(2, 1, 2), {16, 8, 0, 16, 40, 80}, 0, 0x08, TOTALS, {3, 0, 0, 0, 0}, REFUSED},
+    {SHAPE(2, 1, 2), {16, 8, 2, 24, 40, 80}, 0, 0x08, TOTALS, {3, 0, 0, 0, 0}, REFUSED},
     /* And 3 of the answer, which is left alone; 2 comes before it. */
-    {{2, 1, 2}, {16, 8, 2, 16, 39, 80}, 0, 0x08, TOTALS, {3, 0, 0, 0, 0}, REFUSED},
-    {{2, 1, 2}, {16, 8, 2, 16, 41, 80}, 0, 0x08, TOTALS, {3, 0, 0, 0, 0}, REFUSED},
-    {{2, 1, 2}, {16, 8, 2, 16, 0, 80}, 0, 0x08, TOTALS, {3, 0, 0, 0, 0}, REFUSED},
-    {{2, 1, 2}, {16, 8, 2, 16, 80, 80}, 0, 0xFF05, TOTALS, {3, 0, 0, 0, 0}, REFUSED},
-    {{2, 1, 2}, {16, 8, 2, 16, 39, 80}, 0, 0xFF07, TOTALS, {3, 0, 0, 0, 0}, REFUSED},
-    {{2, 1, 2}, {16, 8, 3, 16, 39, 80}, 0, 0x08, TOTALS, {3, 0, 0, 0, 0}, REFUSED},
-    {{9, 1, 2}, {16, 8, 2, 16, 39, 80}, 0, 0x08, TOTALS, {2, 0, 0, 0, 0}, REFUSED},
+    {SHAPE(2, 1, 2), {16, 8, 2, 16, 39, 80}, 0, 0x08, TOTALS, {3, 0, 0, 0, 0}, REFUSED},
+    {SHAPE(2, 1, 2), {16, 8, 2, 16, 41, 80}, 0, 0x08, TOTALS, {3, 0, 0, 0, 0}, REFUSED},
+    {SHAPE(2, 1, 2), {16, 8, 2, 16, 0, 80}, 0, 0x08, TOTALS, {3, 0, 0, 0, 0}, REFUSED},
+    {SHAPE(2, 1, 2), {16, 8, 2, 16, 80, 80}, 0, 0xFF05, TOTALS, {3, 0, 0, 0, 0}, REFUSED},
+    {SHAPE(2, 1, 2), {16, 8, 2, 16, 39, 80}, 0, 0xFF07, TOTALS, {3, 0, 0, 0, 0}, REFUSED},
+    {SHAPE(2, 1, 2), {16, 8, 3, 16, 39, 80}, 0, 0x08, TOTALS, {3, 0, 0, 0, 0}, REFUSED},
+    {SHAPE(9, 1, 2), {16, 8, 2, 16, 39, 80}, 0, 0x08, TOTALS, {2, 0, 0, 0, 0}, REFUSED},
+    /* And 12, whatever the order; 2 and 3 come before it. */
+    {BEYOND_SCRATCH, FITTING, 0, 0x08, TOTALS, {12, 0, 0, 0, 0}, REFUSED},
+    {BEYOND_DEVICE, FITTING, 0, 0x08, TOTALS, {12, 0, 0, 0, 0}, REFUSED},
+    {BEYOND_DEVICE, FITTING, 0, 0x0000000500000F0A, TOTALS, {12, 0, 0, 0, 0}, REFUSED},
+    {BEYOND_SCRATCH, FITTING, 0, 0x03, TOTALS, {12, 0, 0, 0, 0}, REFUSED},
+    {BEYOND_SCRATCH, FITTING, 0, 0x04, TOTALS, {12, 0, 0, 0, 0}, REFUSED},
+    {BEYOND_DEVICE, FITTING, 0, 0xFF05, TOTALS, {12, 0, 0, 0, 0}, REFUSED},
+    {BEYOND_SCRATCH, FITTING, 0, 0xFF07, TOTALS, {12, 0, 0, 0, 0}, REFUSED},
+    {BEYOND_DEVICE, FITTING, 0, 0x20, TOTALS, {12, 0, 0, 0, 0}, REFUSED},
+    {BEYOND_DEVICE, FITTING, 3, 0x08, TOTALS, {12, 0, 0, 0, 0}, REFUSED},
+    {{9, 1, 2, {0, 3}, {0, 0}}, FITTING, 0, 0x08, TOTALS, {2, 0, 0, 0, 0}, REFUSED},
+    {BEYOND_SCRATCH, {16, 8, 3, 16, 40, 80}, 0, 0x08, TOTALS, {3, 0, 0, 0, 0}, REFUSED},
+    {BEYOND_DEVICE, {16, 8, 2, 16, 39, 80}, 0, 0x08, TOTALS, {3, 0, 0, 0, 0}, REFUSED},
+    /* In a range the mode in force decides what is counted: a write in scratch stores nothing, one in the device range
+       does. */
+    {{2, 1, 2, {0, 1}, {0, 0}}, FITTING, 0, 0xFF01, TOTALS, {0, 0, 0, 1, 0}, {0, 1, 0, 0, 0, 0, 0, 1, 0, 0}},
+    {{2, 1, 2, {1, 1}, {0, 1}}, FITTING, 0, 0xFF09, TOTALS, {0, 0, 0, 1, 1}, {0, 1, 0, 0, 0, 0, 0, 1, 1, 0}},
+    {{2, 1, 2, {0, 2}, {0, 2}}, FITTING, 0, 0xFF01, TOTALS, {0, 0, 0, 1, 0}, {0, 1, 0, 0, 0, 0, 0, 1, 0, 0}},
     /* A record of another length is refused 3 and left alone. */
-    {{2, 1, 2}, {16, 8, 2, 16, 40, 0}, 0, 0x08, TOTALS, {3, 0, 0, 0, 0}, NOWHERE},
-    {{2, 1, 2}, {16, 8, 2, 16, 40, 1}, 0, 0x08, TOTALS, {3, 0, 0, 0, 0}, NOWHERE},
-    {{2, 1, 2}, {16, 8, 2, 16, 40, 40}, 0, 0x08, TOTALS, {3, 0, 0, 0, 0}, NOWHERE},
-    {{2, 1, 2}, {16, 8, 2, 16, 40, 72}, 0, 0x08, TOTALS, {3, 0, 0, 0, 0}, NOWHERE},
-    {{2, 1, 2}, {16, 8, 2, 16, 40, 79}, 0, 0x08, TOTALS, {3, 0, 0, 0, 0}, NOWHERE},
-    {{2, 1, 2}, {16, 8, 2, 16, 40, 81}, 0, 0x08, TOTALS, {3, 0, 0, 0, 0}, NOWHERE},
-    {{2, 1, 2}, {16, 8, 2, 16, 40, 88}, 0, 0x08, TOTALS, {3, 0, 0, 0, 0}, NOWHERE},
-    {{2, 1, 2}, {16, 8, 2, 16, 40, 96}, 0, 0x08, TOTALS, {3, 0, 0, 0, 0}, NOWHERE},
+    {SHAPE(2, 1, 2), {16, 8, 2, 16, 40, 0}, 0, 0x08, TOTALS, {3, 0, 0, 0, 0}, NOWHERE},
+    {SHAPE(2, 1, 2), {16, 8, 2, 16, 40, 1}, 0, 0x08, TOTALS, {3, 0, 0, 0, 0}, NOWHERE},
+    {SHAPE(2, 1, 2), {16, 8, 2, 16, 40, 40}, 0, 0x08, TOTALS, {3, 0, 0, 0, 0}, NOWHERE},
+    {SHAPE(2, 1, 2), {16, 8, 2, 16, 40, 72}, 0, 0x08, TOTALS, {3, 0, 0, 0, 0}, NOWHERE},
+    {SHAPE(2, 1, 2), {16, 8, 2, 16, 40, 79}, 0, 0x08, TOTALS, {3, 0, 0, 0, 0}, NOWHERE},
+    {SHAPE(2, 1, 2), {16, 8, 2, 16, 40, 81}, 0, 0x08, TOTALS, {3, 0, 0, 0, 0}, NOWHERE},
+    {SHAPE(2, 1, 2), {16, 8, 2, 16, 40, 88}, 0, 0x08, TOTALS, {3, 0, 0, 0, 0}, NOWHERE},
+    {SHAPE(2, 1, 2), {16, 8, 2, 16, 40, 96}, 0, 0x08, TOTALS, {3, 0, 0, 0, 0}, NOWHERE},
     /* Also where all its totals are too high, for 9 is asked of a record of its length. */
-    {{2, 1, 2}, {16, 8, 2, 16, 40, 72}, 0, 0x08, ALL, {3, 0, 0, 0, 0}, NOWHERE},
-    {{2, 1, 2}, {16, 8, 2, 16, 40, 79}, 0, 0x08, ALL, {3, 0, 0, 0, 0}, NOWHERE},
-    {{2, 1, 2}, {16, 8, 2, 16, 40, 81}, 0, 0x08, ALL, {3, 0, 0, 0, 0}, NOWHERE},
-    {{2, 1, 2}, {16, 8, 2, 16, 40, 88}, 0, 0x08, ALL, {3, 0, 0, 0, 0}, NOWHERE},
-    /* 2 comes before that 3, and that 3 before 4 to 8. With a wrong answer too nothing is written. */
-    {{9, 1, 2}, {16, 8, 2, 16, 40, 79}, 0, 0x08, TOTALS, {2, 0, 0, 0, 0}, NOWHERE},
-    {{2, 5, 2}, {16, 8, 2, 16, 40, 88}, 0, 0x08, ALL, {2, 0, 0, 0, 0}, NOWHERE},
-    {{2, 1, 0}, {16, 8, 2, 16, 40, 0}, 0, 0x08, TOTALS, {2, 0, 0, 0, 0}, NOWHERE},
-    {{2, 1, 2}, {15, 8, 2, 16, 40, 79}, 0, 0x08, TOTALS, {3, 0, 0, 0, 0}, NOWHERE},
-    {{2, 1, 2}, {16, 8, 2, 16, 39, 79}, 0, 0x08, TOTALS, {3, 0, 0, 0, 0}, NOWHERE},
-    {{9, 1, 2}, {16, 8, 2, 16, 39, 79}, 0, 0x08, TOTALS, {2, 0, 0, 0, 0}, NOWHERE},
-    {{2, 1, 2}, {16, 8, 2, 16, 40, 79}, 0, 0xFF07, TOTALS, {3, 0, 0, 0, 0}, NOWHERE},
-    {{2, 1, 2}, {16, 8, 2, 16, 40, 79}, 0, 0x20, TOTALS, {3, 0, 0, 0, 0}, NOWHERE},
-    {{2, 1, 2}, {16, 8, 2, 16, 40, 79}, 0, 0x20004, TOTALS, {3, 0, 0, 0, 0}, NOWHERE},
-    {{2, 1, 2}, {16, 8, 2, 16, 40, 79}, 0, 0xFF02, TOTALS, {3, 0, 0, 0, 0}, NOWHERE},
-    {{2, 1, 2}, {16, 8, 2, 16, 40, 79}, 3, 0x08, TOTALS, {3, 0, 0, 0, 0}, NOWHERE},
-    /* 9 comes before every other: before acceptance, 2, 3 of each slice, and 4 to 8. It is counted nowhere. */
-    {{2, 1, 2}, FITTING, 0, 0x08, FULL, {9, 0, 0, 0, 0}, NOWHERE},
-    {{2, 1, 2}, FITTING, 0, 0xFF05, FULL, {9, 0, 0, 0, 0}, NOWHERE},
-    {{2, 1, 2}, FITTING, 0, 0x0000000500000F02, ALL, {9, 0, 0, 0, 0}, NOWHERE},
-    {{9, 1, 2}, FITTING, 0, 0x08, FULL, {9, 0, 0, 0, 0}, NOWHERE},
-    {{2, 0, 2}, FITTING, 0, 0x08, FULL, {9, 0, 0, 0, 0}, NOWHERE},
-    {{2, 1, M}, FITTING, 0, 0x08, FULL, {9, 0, 0, 0, 0}, NOWHERE},
-    {{2, 1, 2}, {15, 8, 2, 16, 40, 80}, 0, 0x08, FULL, {9, 0, 0, 0, 0}, NOWHERE},
-    {{2, 1, 2}, {16, 0, 2, 16, 40, 80}, 0, 0x08, FULL, {9, 0, 0, 0, 0}, NOWHERE},
-    {{2, 1, 2}, {16, 8, 3, 16, 40, 80}, 0, 0x08, FULL, {9, 0, 0, 0, 0}, NOWHERE},
-    {{2, 1, 2}, {16, 8, 2, 17, 40, 80}, 0, 0x08, FULL, {9, 0, 0, 0, 0}, NOWHERE},
-    {{2, 1, 2}, FITTING, 0, 0xFF07, FULL, {9, 0, 0, 0, 0}, NOWHERE},
-    {{2, 1, 2}, FITTING, 0, 0x20, FULL, {9, 0, 0, 0, 0}, NOWHERE},
-    {{2, 1, 2}, FITTING, 0, 0x20004, FULL, {9, 0, 0, 0, 0}, NOWHERE},
-    {{2, 1, 2}, FITTING, 0, 0xFF02, FULL, {9, 0, 0, 0, 0}, NOWHERE},
-    {{2, 1, 2}, FITTING, 3, 0x08, FULL, {9, 0, 0, 0, 0}, NOWHERE},
+    {SHAPE(2, 1, 2), {16, 8, 2, 16, 40, 72}, 0, 0x08, ALL, {3, 0, 0, 0, 0}, NOWHERE},
+    {SHAPE(2, 1, 2), {16, 8, 2, 16, 40, 79}, 0, 0x08, ALL, {3, 0, 0, 0, 0}, NOWHERE},
+    {SHAPE(2, 1, 2), {16, 8, 2, 16, 40, 81}, 0, 0x08, ALL, {3, 0, 0, 0, 0}, NOWHERE},
+    {SHAPE(2, 1, 2), {16, 8, 2, 16, 40, 88}, 0, 0x08, ALL, {3, 0, 0, 0, 0}, NOWHERE},
+    /* 2 comes before that 3, and that 3 before 12 and 4 to 8. With a wrong answer too nothing is written. */
+    {BEYOND_SCRATCH, {16, 8, 2, 16, 40, 79}, 0, 0x08, TOTALS, {3, 0, 0, 0, 0}, NOWHERE},
+    {BEYOND_DEVICE, {16, 8, 2, 16, 40, 88}, 0, 0x08, ALL, {3, 0, 0, 0, 0}, NOWHERE},
+    {SHAPE(9, 1, 2), {16, 8, 2, 16, 40, 79}, 0, 0x08, TOTALS, {2, 0, 0, 0, 0}, NOWHERE},
+    {SHAPE(2, 5, 2), {16, 8, 2, 16, 40, 88}, 0, 0x08, ALL, {2, 0, 0, 0, 0}, NOWHERE},
+    {SHAPE(2, 1, 0), {16, 8, 2, 16, 40, 0}, 0, 0x08, TOTALS, {2, 0, 0, 0, 0}, NOWHERE},
+    {SHAPE(2, 1, 2), {15, 8, 2, 16, 40, 79}, 0, 0x08, TOTALS, {3, 0, 0, 0, 0}, NOWHERE},
+    {SHAPE(2, 1, 2), {16, 8, 2, 16, 39, 79}, 0, 0x08, TOTALS, {3, 0, 0, 0, 0}, NOWHERE},
+    {SHAPE(9, 1, 2), {16, 8, 2, 16, 39, 79}, 0, 0x08, TOTALS, {2, 0, 0, 0, 0}, NOWHERE},
+    {SHAPE(2, 1, 2), {16, 8, 2, 16, 40, 79}, 0, 0xFF07, TOTALS, {3, 0, 0, 0, 0}, NOWHERE},
+    {SHAPE(2, 1, 2), {16, 8, 2, 16, 40, 79}, 0, 0x20, TOTALS, {3, 0, 0, 0, 0}, NOWHERE},
+    {SHAPE(2, 1, 2), {16, 8, 2, 16, 40, 79}, 0, 0x20004, TOTALS, {3, 0, 0, 0, 0}, NOWHERE},
+    {SHAPE(2, 1, 2), {16, 8, 2, 16, 40, 79}, 0, 0xFF02, TOTALS, {3, 0, 0, 0, 0}, NOWHERE},
+    {SHAPE(2, 1, 2), {16, 8, 2, 16, 40, 79}, 3, 0x08, TOTALS, {3, 0, 0, 0, 0}, NOWHERE},
+    /* 9 comes before every other: before acceptance, 2, 3 of each slice, 12, and 4 to 8. It is counted nowhere. */
+    {BEYOND_SCRATCH, FITTING, 0, 0x08, FULL, {9, 0, 0, 0, 0}, NOWHERE},
+    {BEYOND_DEVICE, FITTING, 0, 0x08, ALL, {9, 0, 0, 0, 0}, NOWHERE},
+    {SHAPE(2, 1, 2), FITTING, 0, 0x08, FULL, {9, 0, 0, 0, 0}, NOWHERE},
+    {SHAPE(2, 1, 2), FITTING, 0, 0xFF05, FULL, {9, 0, 0, 0, 0}, NOWHERE},
+    {SHAPE(2, 1, 2), FITTING, 0, 0x0000000500000F02, ALL, {9, 0, 0, 0, 0}, NOWHERE},
+    {SHAPE(9, 1, 2), FITTING, 0, 0x08, FULL, {9, 0, 0, 0, 0}, NOWHERE},
+    {SHAPE(2, 0, 2), FITTING, 0, 0x08, FULL, {9, 0, 0, 0, 0}, NOWHERE},
+    {SHAPE(2, 1, M), FITTING, 0, 0x08, FULL, {9, 0, 0, 0, 0}, NOWHERE},
+    {SHAPE(2, 1, 2), {15, 8, 2, 16, 40, 80}, 0, 0x08, FULL, {9, 0, 0, 0, 0}, NOWHERE},
+    {SHAPE(2, 1, 2), {16, 0, 2, 16, 40, 80}, 0, 0x08, FULL, {9, 0, 0, 0, 0}, NOWHERE},
+    {SHAPE(2, 1, 2), {16, 8, 3, 16, 40, 80}, 0, 0x08, FULL, {9, 0, 0, 0, 0}, NOWHERE},
+    {SHAPE(2, 1, 2), {16, 8, 2, 17, 40, 80}, 0, 0x08, FULL, {9, 0, 0, 0, 0}, NOWHERE},
+    {SHAPE(2, 1, 2), FITTING, 0, 0xFF07, FULL, {9, 0, 0, 0, 0}, NOWHERE},
+    {SHAPE(2, 1, 2), FITTING, 0, 0x20, FULL, {9, 0, 0, 0, 0}, NOWHERE},
+    {SHAPE(2, 1, 2), FITTING, 0, 0x20004, FULL, {9, 0, 0, 0, 0}, NOWHERE},
+    {SHAPE(2, 1, 2), FITTING, 0, 0xFF02, FULL, {9, 0, 0, 0, 0}, NOWHERE},
+    {SHAPE(2, 1, 2), FITTING, 3, 0x08, FULL, {9, 0, 0, 0, 0}, NOWHERE},
     /* An answer of another length is left alone, and 9 is returned; also where shape and memory are wrong too. */
-    {{2, 1, 2}, {16, 8, 2, 16, 39, 80}, 0, 0x08, FULL, {9, 0, 0, 0, 0}, NOWHERE},
-    {{2, 1, 2}, {16, 8, 2, 16, 41, 80}, 0, 0x08, FULL, {9, 0, 0, 0, 0}, NOWHERE},
-    {{2, 1, 2}, {16, 8, 2, 16, 0, 80}, 0, 0x08, FULL, {9, 0, 0, 0, 0}, NOWHERE},
-    {{9, 1, 2}, {15, 8, 2, 16, 39, 80}, 0, 0x08, FULL, {9, 0, 0, 0, 0}, NOWHERE},
+    {SHAPE(2, 1, 2), {16, 8, 2, 16, 39, 80}, 0, 0x08, FULL, {9, 0, 0, 0, 0}, NOWHERE},
+    {SHAPE(2, 1, 2), {16, 8, 2, 16, 41, 80}, 0, 0x08, FULL, {9, 0, 0, 0, 0}, NOWHERE},
+    {SHAPE(2, 1, 2), {16, 8, 2, 16, 0, 80}, 0, 0x08, FULL, {9, 0, 0, 0, 0}, NOWHERE},
+    {SHAPE(9, 1, 2), {15, 8, 2, 16, 39, 80}, 0, 0x08, FULL, {9, 0, 0, 0, 0}, NOWHERE},
 };
 
 enum { TOTALS_CASES = sizeof totals_case_list / sizeof totals_case_list[0] };
@@ -260,17 +284,18 @@ static int record_is(const struct pair *pair, const uint64_t *numbers, const uin
 }
 
 /* Whether a step without a record, on history.start, gives the memory and tables that are kept, and the answer. */
-static int same_without_record(struct tester *tester, uint64_t word, const struct second_answer *answer)
+static int same_without_record(struct tester *tester, const struct totals_case *wanted)
 {
     struct pair *pair = &tester->pair;
     struct second_answer given;
 
     pair->second = tester->history.start;
+    pair->second.shape = wanted->shape;
     pair_lend(pair, 0);
-    if (!pair_step(pair, word, 9))
+    if (!pair_step(pair, wanted->word, 9))
         return 0;
     given = second_decode_answer(pair->slices[RESULT].bytes);
-    return are_kept(pair) && memcmp(&given, answer, sizeof given) == 0;
+    return lent_is_kept(pair) && memcmp(&given, &wanted->answer, sizeof given) == 0;
 }
 
 /* A call on slices that lie as it says, held against its answer and what it adds. */
@@ -279,7 +304,7 @@ static int call_is(struct tester *tester, const struct totals_case *wanted)
     struct pair *pair = &tester->pair;
     struct second_answer given;
 
-    keep(pair);
+    keep_lent(pair);
     if (!pair_call(pair, STEP_TOTALS, wanted->shape, wanted->word, 9))
         return report_call(tester, "step with a record", wanted->shape, wanted->word, 9);
     snprintf(pair->difference, sizeof pair->difference, "  the call is not as worked out\n");
@@ -291,16 +316,16 @@ static int call_is(struct tester *tester, const struct totals_case *wanted)
             return report_call(tester, "step with a record", wanted->shape, wanted->word, 9);
     }
     if (wanted->answer.refusal != 0)
-        return are_kept(pair) || report_call(tester, "refused step with a record", wanted->shape, wanted->word, 9);
-    keep(pair);
-    return same_without_record(tester, wanted->word, &wanted->answer) ||
+        return lent_is_kept(pair) || report_call(tester, "refused step with a record", wanted->shape, wanted->word, 9);
+    keep_lent(pair);
+    return same_without_record(tester, wanted) ||
            report_call(tester, "step without a record", wanted->shape, wanted->word, 9);
 }
 
 /* The start of the cases: memory 5 and 7, and tables of zeros. */
 static struct second_model *small_start(struct tester *tester)
 {
-    static const struct second_shape shape = {2, 1, 2};
+    static const struct second_shape shape = SHAPE(2, 1, 2);
     struct second_model *start = &tester->history.start;
 
     memset(start, 0, sizeof *start);
@@ -331,14 +356,14 @@ static int totals_cases(struct tester *tester)
 
 /* Orders where port 0 holds line 1 in M with the word 0x70: every total is added to by one of them. */
 static const struct totals_case limit_list[] = {
-    {{2, 1, 2}, FITTING, 0, 0x10, TOTALS, {0, 5, 0, 1, 0}, {1, 0, 0, 0, 0, 0, 0, 1, 0, 0}},
-    {{2, 1, 2}, FITTING, 0, 0x1FF09, TOTALS, {0, 0, 0, 0, 0}, {0, 1, 0, 0, 0, 0, 0, 0, 0, 0}},
-    {{2, 1, 2}, FITTING, 0, 0x0000000500000F02, TOTALS, {0, 5, 1, 1, 2}, {0, 0, 1, 0, 0, 0, 0, 1, 2, 1}},
-    {{2, 1, 2}, FITTING, 0, 0x10003, TOTALS, {0, 0, 0, 0, 1}, {0, 0, 0, 1, 0, 0, 0, 0, 1, 0}},
-    {{2, 1, 2}, FITTING, 0, 0x04, TOTALS, {0, 5, 0, 1, 0}, {0, 0, 0, 0, 1, 0, 0, 1, 0, 0}},
-    {{2, 1, 2}, FITTING, 0, 0xFF05, TOTALS, {0, 0, 0, 1, 1}, {0, 0, 0, 0, 0, 1, 0, 1, 1, 0}},
-    {{2, 1, 2}, FITTING, 0, 0x1FF05, TOTALS, {0, 0, 0, 0, 1}, {0, 0, 0, 0, 0, 1, 0, 0, 1, 0}},
-    {{2, 1, 2}, FITTING, 0, 0x20, TOTALS, {5, 0, 0, 0, 0}, REFUSED},
+    {SHAPE(2, 1, 2), FITTING, 0, 0x10, TOTALS, {0, 5, 0, 1, 0}, {1, 0, 0, 0, 0, 0, 0, 1, 0, 0}},
+    {SHAPE(2, 1, 2), FITTING, 0, 0x1FF09, TOTALS, {0, 0, 0, 0, 0}, {0, 1, 0, 0, 0, 0, 0, 0, 0, 0}},
+    {SHAPE(2, 1, 2), FITTING, 0, 0x0000000500000F02, TOTALS, {0, 5, 1, 1, 2}, {0, 0, 1, 0, 0, 0, 0, 1, 2, 1}},
+    {SHAPE(2, 1, 2), FITTING, 0, 0x10003, TOTALS, {0, 0, 0, 0, 1}, {0, 0, 0, 1, 0, 0, 0, 0, 1, 0}},
+    {SHAPE(2, 1, 2), FITTING, 0, 0x04, TOTALS, {0, 5, 0, 1, 0}, {0, 0, 0, 0, 1, 0, 0, 1, 0, 0}},
+    {SHAPE(2, 1, 2), FITTING, 0, 0xFF05, TOTALS, {0, 0, 0, 1, 1}, {0, 0, 0, 0, 0, 1, 0, 1, 1, 0}},
+    {SHAPE(2, 1, 2), FITTING, 0, 0x1FF05, TOTALS, {0, 0, 0, 0, 1}, {0, 0, 0, 0, 0, 1, 0, 0, 1, 0}},
+    {SHAPE(2, 1, 2), FITTING, 0, 0x20, TOTALS, {5, 0, 0, 0, 0}, REFUSED},
 };
 
 enum { LIMIT_ORDERS = sizeof limit_list / sizeof limit_list[0] };
@@ -419,7 +444,7 @@ static int run_with_record(struct tester *tester, size_t orders)
             return report_history(tester);
         answers[k] = history->given;
     }
-    keep(&tester->pair);
+    keep_lent(&tester->pair);
     return history_end(history, &tester->pair) || report_history(tester);
 }
 
@@ -439,7 +464,7 @@ static int run_without_record(struct tester *tester, size_t orders)
             break;
         k++;
     }
-    if (k == orders && are_kept(&tester->pair))
+    if (k == orders && lent_is_kept(&tester->pair))
         return 1;
     snprintf(tester->pair.difference, sizeof tester->pair.difference,
              "  with a record the run is another from order %zu on\n", k + 1);
@@ -498,8 +523,7 @@ struct second_shape out_of_range(struct generator *generator, struct second_shap
     return shape;
 }
 
-/* A record of any length up to 96 bytes, often of 80. */
-static void place_some_record(struct tester *tester)
+void place_some_record(struct tester *tester)
 {
     struct generator *generator = &tester->generator;
     size_t length = generator_percent(generator, 50) ? SECOND_RECORD_BYTES : generator_below(generator, 97);
@@ -516,7 +540,7 @@ static void place_some_record(struct tester *tester)
         pair_place_record(&tester->pair, bytes, length, generator_below(generator, 8));
 }
 
-static void place_some_answer(struct tester *tester)
+void place_some_answer(struct tester *tester)
 {
     static const size_t lengths[8] = {0, 0, 1, 8, 32, 39, 41, 80};
     struct generator *generator = &tester->generator;
@@ -528,7 +552,7 @@ static void place_some_answer(struct tester *tester)
         pair_place(&tester->pair, RESULT, length, generator_below(generator, 8));
 }
 
-/* Calls on tables that mostly let orders in. In some the shape, a slice, the record or the answer is wrong. */
+/* Calls on tables that mostly let orders in. In some the shape, a range, a slice, the record or the answer is wrong. */
 int totals_lengths(struct tester *tester, uint64_t run)
 {
     struct generator *generator = &tester->generator;
@@ -537,6 +561,8 @@ int totals_lengths(struct tester *tester, uint64_t run)
     unsigned wrong = generator_percent(generator, 70) ? 0 : generator_below(generator, 16);
 
     begin_traffic(tester, shape);
+    if (said.lines == shape.lines && generator_percent(generator, 20))
+        traffic_ranges_beyond(generator, &said);
     traffic_noise(&tester->traffic, generator, &tester->history.start);
     tester->pair.second = tester->history.start;
     pair_lend(&tester->pair, generator_below(generator, 8));

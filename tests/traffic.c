@@ -4,6 +4,91 @@
 
 static const uint8_t state_bytes[7] = {0, 1, 2, 9, 10, 11, 12};
 
+/* Ranges. */
+
+/* A first line for an empty range, of which nobody asks where it starts. */
+static uint64_t any_first(struct generator *generator, uint64_t lines)
+{
+    const uint64_t often[6] = {0, lines, lines + 1, UINT64_C(1) << 63, UINT64_MAX, generator_word(generator)};
+
+    return generator_percent(generator, 50) ? often[generator_below(generator, 6)] : generator_below(generator, lines);
+}
+
+/* A range that ends within lines. */
+static struct second_range some_range(struct generator *generator, uint64_t lines)
+{
+    struct second_range range = {generator_below(generator, lines), 1};
+
+    switch (generator_below(generator, 8)) {
+    case 0: /* empty */
+        range.first = any_first(generator, lines);
+        range.count = 0;
+        break;
+    case 1: /* all of memory */
+        range.first = 0;
+        range.count = lines;
+        break;
+    case 2: case 3: /* up to the last line */
+        range.count = lines - range.first;
+        break;
+    case 4: /* one line */
+        break;
+    default:
+        range.count = 1 + generator_below(generator, lines - range.first);
+        break;
+    }
+    return range;
+}
+
+void traffic_ranges(struct generator *generator, struct second_shape *shape)
+{
+    unsigned thrown = generator_below(generator, 100);
+
+    shape->scratch = some_range(generator, shape->lines);
+    shape->device = some_range(generator, shape->lines);
+    if (thrown < 40)
+        shape->scratch.count = 0;
+    if (thrown < 30 || (thrown >= 40 && thrown < 50))
+        shape->device.count = 0;
+    if (thrown >= 95)
+        shape->device = shape->scratch;
+}
+
+/* A range that ends beyond lines. Some would end within them if a sum wrapped, or if upper bits were lost. */
+static struct second_range range_beyond(struct generator *generator, uint64_t lines)
+{
+    uint64_t first = generator_below(generator, lines), count = 1 + generator_below(generator, lines - first);
+    uint64_t any = generator_word(generator), other = generator_word(generator);
+    const struct second_range ranges[12] = {
+        {first, lines - first + 1}, {lines, 1}, {lines + 1 + first, count}, {0, lines + 1}, {first, UINT64_MAX},
+        {UINT64_MAX, 1}, {UINT64_MAX, count}, {UINT64_C(1) << 63, UINT64_C(1) << 63},
+        {UINT64_MAX - first, count + first}, {first + (UINT64_C(1) << 32), count}, {first, count + (UINT64_C(1) << 32)},
+        {any | 4097, other | 1},
+    };
+
+    return ranges[generator_below(generator, 12)];
+}
+
+void traffic_ranges_beyond(struct generator *generator, struct second_shape *shape)
+{
+    unsigned which = generator_below(generator, 3);
+
+    traffic_ranges(generator, shape);
+    if (which != 0)
+        shape->scratch = range_beyond(generator, shape->lines);
+    if (which != 1)
+        shape->device = range_beyond(generator, shape->lines);
+}
+
+struct second_shape traffic_without_ranges(struct second_shape shape)
+{
+    static const struct second_range empty = {0, 0};
+
+    shape.scratch = empty;
+    shape.device = empty;
+    return shape;
+}
+
 /* Shapes. */
 
 struct second_shape traffic_small_shape(struct generator *generator)
@@ -13,6 +98,7 @@ struct second_shape traffic_small_shape(struct generator *generator)
     shape.ports = 1 + generator_below(generator, 4);
     shape.sets = 1u << generator_below(generator, 3);
     shape.lines = 1 + generator_below(generator, 3 * shape.sets + 2);
+    traffic_ranges(generator, &shape);
     return shape;
 }
 
@@ -24,6 +110,7 @@ struct second_shape traffic_any_shape(struct generator *generator)
     shape.ports = generator_percent(generator, 40) ? 8 : 1 + generator_below(generator, 8);
     shape.sets = generator_percent(generator, 40) ? 64 : 1u << generator_below(generator, 7);
     shape.lines = generator_percent(generator, 50) ? often[generator_below(generator, 8)] : 1 + generator_below(generator, 4096);
+    traffic_ranges(generator, &shape);
     return shape;
 }
 
@@ -41,6 +128,16 @@ static unsigned usual_line(const struct traffic *traffic, struct generator *gene
     return any_line(traffic, generator);
 }
 
+/* The line before a range, its first line, its last or the line behind it; another one if there is no such line. */
+static unsigned edge_line(struct generator *generator, struct second_shape shape, unsigned other)
+{
+    struct second_range range = generator_percent(generator, 50) ? shape.scratch : shape.device;
+    uint64_t edges[4] = {range.first - 1, range.first, range.first + range.count - 1, range.first + range.count};
+    uint64_t line = edges[generator_below(generator, 4)];
+
+    return range.count > 0 && line < shape.lines ? (unsigned)line : other;
+}
+
 void traffic_begin(struct traffic *traffic, struct generator *generator, struct second_shape shape)
 {
     static const unsigned percents[5] = {0, 30, 50, 70, 100};
@@ -54,6 +151,8 @@ void traffic_begin(struct traffic *traffic, struct generator *generator, struct 
         /* A line that shares the index of the first one, where there is one. */
         if (k > 0 && ways > 0 && generator_percent(generator, 70))
             line = (unsigned)(traffic->hot[0] % shape.sets + shape.sets * generator_below(generator, ways));
+        if (generator_percent(generator, 30))
+            line = edge_line(generator, shape, line);
         traffic->hot[k] = line;
     }
     traffic->hot_percent = generator_percent(generator, 80) ? 90 : 20;

@@ -9,7 +9,7 @@
 /* The choices of one run, so that runs differ from each other in more than their numbers. */
 struct traffic {
     struct second_shape shape;
-    unsigned hot[8]; /* lines that many orders go to; most share an index */
+    unsigned hot[8]; /* lines that many orders go to; most share an index, or are at the edges of a range */
     unsigned hot_count;
     unsigned hot_percent;
     unsigned hit_percent;  /* orders by a port that holds the line, where there is one */
@@ -20,11 +20,20 @@ struct traffic {
     unsigned weights[SECOND_KINDS]; /* of the kinds */
 };
 
-/* A shape of few entries, so that conflicts and evictions are frequent. */
+/* A shape of few entries, so that conflicts and evictions are frequent; its ranges are by traffic_ranges. */
 struct second_shape traffic_small_shape(struct generator *generator);
 
-/* Any shape; the limits come often. */
+/* Any shape; the limits come often. Its ranges are by traffic_ranges. */
 struct second_shape traffic_any_shape(struct generator *generator);
+
+/* Two ranges that end within lines: empty ones, wherever they start, parts of memory, all of it, and such as cross. */
+void traffic_ranges(struct generator *generator, struct second_shape *shape);
+
+/* The same, and then one of them or both end beyond lines: by one line, far, or by a sum that wraps. */
+void traffic_ranges_beyond(struct generator *generator, struct second_shape *shape);
+
+/* The shape with both ranges empty. */
+struct second_shape traffic_without_ranges(struct second_shape shape);
 
 /* The choices of a run on a shape. */
 void traffic_begin(struct traffic *traffic, struct generator *generator, struct second_shape shape);

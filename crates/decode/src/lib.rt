@@ -6,7 +6,7 @@ use protocol::state::Mode;
 use shape::Shape;
 use words::access::Access;
 ghost use mathlib.Core.Path.{_≡_};
-ghost use Rattle.model.specs.Order.{bits, modeIn, checked, callOf, decode};
+ghost use Rattle.model.specs.Order.{bits, modeInForce, checked, callOf, decode};
 ghost use Rattle.decode.specs.Order.{order, accessOf, refusalIn};
 
 // The kind that an order word says, bits 0-2.
@@ -16,14 +16,14 @@ pub fn kind_of(w: u64) -> usize
     (w / 1 % 8) as usize
 }
 
-fn mode_in(w: u64) -> Mode
-    ensures { λ r. ⌜ r ≡ modeIn w ⌝ }
+// The mode in which an order of word w runs on line a: write back in the scratch range, which is looked up first, write through in the device
+// range, and elsewhere what bit 3 says. Nothing else reads that bit.
+fn mode_in_force(shape: Shape, w: u64, a: usize) -> Mode
+    ensures { λ r. ⌜ r ≡ modeInForce shape w a ⌝ }
 {
-    if w / 8 % 2 == 1 {
-        Mode::Back
-    } else {
-        Mode::Through
-    }
+    let said = w / 8 % 2 == 1;
+    let back = shape.scratch.has(a) | (!shape.device.has(a) & said);
+    if back { Mode::Back } else { Mode::Through }
 }
 
 // What the kinds 0 to 2 ask: read, write, and else compare-and-swap.
@@ -89,7 +89,7 @@ pub fn decode_order(shape: Shape, w: u64, x: u64) -> Decoded
     let mask = (w / 256 % 256) as u8;
     let line = (w / 65536 % 65536) as usize;
     let compare = w / 4294967296 % 4294967296;
-    let call = call_of(kind, mode_in(w), port, mask, compare, x);
+    let call = call_of(kind, mode_in_force(shape, w, line), port, mask, compare, x);
     checked_call(shape, kind, port, mask, line, call)
 }
 

@@ -10,7 +10,7 @@ use Rattle.words.proofs.Bools.{Is}
 use Rattle.endian.proofs.Little.{length-numbers}
 use Rattle.ports.specs.Bytes.{bytes, modelIn}
 use Rattle.shape.specs.declared.Shape.{Shape}
-use Rattle.shape.specs.Shape.{inRange, entries}
+use Rattle.shape.specs.Shape.{inRange, entries, rangesEnd}
 use Rattle.protocol.specs.State.{code, stateOf}
 use Rattle.model.specs.Below.{allBelow}
 use Rattle.model.specs.Tables.{lentRefusal}
@@ -71,16 +71,17 @@ there-and-back way s t out again z g =
     ∙ sym (returned way s t again (a .range) (a .fits) g (all-become way (t .states) (a .none)))
 
 -- The audit of what the tables become.
-moved-agrees : (s : Shape) (memory : List ℕ) (t : Tables) → Is (inRange s) → length (t .states) ≡ entries s → AllBecome ToNew (t .states)
+moved-agrees : (s : Shape) (memory : List ℕ) (t : Tables) → Is (inRange s) → Is (rangesEnd s) → length (t .states) ≡ entries s → AllBecome ToNew (t .states)
     → audit s (modelIn s (bytes memory (t .tags) (mapped ToNew (t .states)) (t .words))) ≡ keepsRules s (oldIn s memory t)
 unfolding audit modelIn oldIn
-moved-agrees s memory t r e h =
+moved-agrees s memory t r ends e h =
     rw (eq-eqb (lentRefusal s (modelIn s (bytes memory (t .tags) (mapped ToNew (t .states)) (t .words)))) 0 lent)
     (audit-new s (oldIn s memory t) (λ k p. h k (rw (← e) at p) .0))
   where
     lent : lentRefusal s (modelIn s (bytes memory (t .tags) (mapped ToNew (t .states)) (t .words))) ≡ 0
     lent = facts-lent s _ (record {
       range = r;
+      ends = ends;
       sizes = record {
         memory = length-numbers 8 (s .lines) memory;
         tags = length-numbers 4 (entries s) (t .tags);
@@ -91,11 +92,11 @@ moved-agrees s memory t r e h =
 
 pub audit-agrees : AuditAgrees
 unfolding moved
-audit-agrees s memory t out z =
+audit-agrees s memory t out ends z =
     let a = accepted ToNew s t out z in
     let e = tables-fitting s _ _ _ (a .fits) .1 in
     ap (λ (u : Tables). audit s (modelIn s (bytes memory (u .tags) (u .states) (u .words)))) (a .moves)
-    ∙ moved-agrees s memory t (a .range) e (all-become ToNew (t .states) (a .none))
+    ∙ moved-agrees s memory t (a .range) ends e (all-become ToNew (t .states) (a .none))
 
 pub kept-converts : KeptConverts
 unfolding convert conversionRefusal oldIn

@@ -6,7 +6,7 @@ use mathlib.Core.List.{List}
 use Rattle.endian.specs.Little.{numbers}
 use Rattle.ports.specs.Bytes.{bytes, modelIn}
 use Rattle.shape.specs.declared.Shape.{Shape}
-use Rattle.shape.specs.Shape.{inRange, entries}
+use Rattle.shape.specs.Shape.{inRange, entries, rangesEnd}
 use Rattle.model.specs.Audit.{audit}
 use Rattle.letters.specs.declared.Way.{Way}
 use Rattle.letters.specs.declared.Way.the-variants.{ToNew}
@@ -26,10 +26,11 @@ unfoldable pub oldIn : Shape → List ℕ → Tables → OldSet
 oldIn s memory t =
     record { memory = numbers 8 (s .lines) memory; tags = numbers 4 (entries s) (t .tags); states = t .states; words = numbers 8 (entries s) (t .words) }
 
--- A converted set passes the new audit exactly when the old one keeps the audit's rules read on the five letters, whatever main memory has.
+-- A converted set passes the new audit exactly when the old one keeps the audit's rules read on the five letters, whatever main memory has, and
+-- under any ranges that end within lines.
 abbrev pub AuditAgrees : Type 0
 AuditAgrees =
-    (s : Shape) (memory : List ℕ) (t out : Tables) → convert ToNew s t out .refusal ≡ 0
+    (s : Shape) (memory : List ℕ) (t out : Tables) → rangesEnd s ≡ true → convert ToNew s t out .refusal ≡ 0
     → let c = convert ToNew s t out .out in
     audit s (modelIn s (bytes memory (c .tags) (c .states) (c .words))) ≡ keepsRules s (oldIn s memory t)
 

@@ -27,7 +27,7 @@ module _ (s : Shape) (a p : ℕ) {x : Place} (e : x ≡ placeOf s a) where
     pub entry-small : p * s .sets + x .index < 512
     entry-small = omega (arith, entry-there, bounded s h .entries-most)
 
--- What is lent without refusal 2 or 3 is in range, and has the shape's sizes; so a line of it may be looked up.
+-- What is lent without a refusal is in range, and has the shape's sizes; so a line of it may be looked up.
 pub ready : (s : Shape) (m g h w : List ℕ) {r : ℕ} → r ≡ refusalOf s (length m) (length g) (length h) (length w) → r ≡ 0 → {a : ℕ} → a < s .lines
     → Ready s g h a
 unfolding lentRefusal

@@ -7,7 +7,7 @@ use lib.ListN.{length}
 use Rattle.shape.specs.declared.Shape.{Shape}
 use Rattle.shape.specs.Shape.{inRange, entries}
 
--- The shape is in range, line a is there, and the tables of tags and states have the shape's entries.
+-- The shape is within its limits, line a is there, and the tables of tags and states have the shape's entries.
 pub record Ready (s : Shape) (tags states : List ℕ) (a : ℕ) : Type 0 where
   pub range : inRange s ≡ true
   pub below : a < s .lines

@@ -78,7 +78,7 @@ fn first_holder(shape: Shape, tags: &[u32], states: &[u8], a: usize) -> Found
     Found::Memory
 }
 
-// Refusal 2, 3, 6 or 8, else the lowest-numbered holder of line a, else memory.
+// Refusal 2, 3, 12, 6 or 8, in checking order, else the lowest-numbered holder of line a, else memory.
 pub fn find_line(
     shape: Shape,
     memory: &[u64],

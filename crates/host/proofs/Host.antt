@@ -29,7 +29,12 @@ use Rattle.host.specs.Host.{inBytes, hostRefusal, hosted, hostStep, host
 pub fitting : (s : Shape) (b : Bytes) (out : Bool) → hostRefusal s b out ≡ 0 → Fitting s b
 fitting s b out e =
     let f = accepted-fits s (length (b .memory)) (length (b .tags)) (length (b .states)) (length (b .words)) out e in
-    record { range = f .range; memory-fits = f .memory-fits; filled = record { tags-fit = f .tags-fit; states-fit = f .states-fit; words-fit = f .words-fit } }
+    record {
+      range = f .range;
+      ends = f .ends;
+      memory-fits = f .memory-fits;
+      filled = record { tags-fit = f .tags-fit; states-fit = f .states-fit; words-fit = f .words-fit };
+    }
 
 -- Every byte of a slice is below 256.
 abbrev pub AreBytes : List ℕ → Type 0

@@ -19,7 +19,8 @@ use Rattle.model.specs.Step.{Result, accepted, refused, step}
 use Rattle.model.proofs.Claims.{refused-changes-nothing, never-nine}
 use Rattle.counters.specs.Totals.{Totals, places, full, totalsAfter, Few, stepTotals, recordLength, totalsIn, recordOf}
 use Rattle.counters.proofs.Answers.{step-few, refused-few}
-use Rattle.lengths.proofs.Lengths.{out-fits, low, some-refusal}
+use Rattle.lengths.proofs.Lengths.{out-fits, some-refusal}
+use Rattle.lengths.proofs.Lengths as lengths
 use Rattle.answers.specs.Answers.{answerBytes}
 use Rattle.host.specs.Host.{hostRefusal, Hosted, hosted, hostStep}
 use Rattle.host.specs.Totals.{isRecord, recordRefusal, recordRefused, withRecord, refusalPut, countsIn, hostStepTotals}
@@ -66,7 +67,7 @@ module _ (s : Shape) (o : Order) (b : Bytes) (out : List ℕ) where
   refusal = hostRefusal s b wide
 
   not-nine : refusal ≢ 9
-  not-nine e = omega (arith, e, low s (length (b .memory)) (length (b .tags)) (length (b .states)) (length (b .words)) wide)
+  not-nine = lengths.never-nine s _ _ _ _ wide
 
   -- The answer of a call without a record, also where it is not written.
   abbrev pub stepAnswer : Answer

@@ -20,7 +20,7 @@ use Rattle.model.specs.Audit.{audit}
 unfoldable pub inBytes : Model → Bytes
 inBytes t = bytes (encoded 8 (t .memory)) (encoded 4 (t .tags)) (t .states) (encoded 8 (t .words))
 
--- Refusal 2 or 3 of what is lent, else 0.
+-- Refusal 2, 3 or 12 of what is lent, else 0.
 abbrev pub hostRefusal : Shape → Bytes → Bool → ℕ
 hostRefusal s b out = refusalBy s (length (b .memory)) (length (b .tags)) (length (b .states)) (length (b .words)) out
 

@@ -21,7 +21,7 @@ abbrev pub isRecord : List ℕ → Bool
 isRecord bs = eqb (length bs) recordLength
 
 -- The refusal of what is lent, in checking order, else 0: 9, a record with a total that has no room; 2; 3, another length of a table, of the
--- answer or of the record.
+-- answer or of the record; 12, a range that ends beyond lines.
 unfoldable pub recordRefusal : Shape → Bytes → List ℕ → List ℕ → ℕ
 recordRefusal s b out bs = cond (isRecord bs && full (totalsIn bs)) 9 (hostRefusal s b (eqb (length out) 40 && isRecord bs))
 

@@ -1,14 +1,14 @@
--- Laws of the lengths of what is lent, and of refusals 2 and 3. Assumes nothing.
-use Prim.Native.Nat.{ℕ, _*_, _<_}
+-- Laws of the lengths of what is lent, and of refusals 2, 3 and 12. Assumes nothing.
+use Prim.Native.Nat.{ℕ, _*_}
 use mathlib.Core.Path.{_≡_, sym, _∙_}
 use mathlib.Core.Logic.{_≢_}
-use mathlib.Core.Bool.{Bool, false, cond, _&&_}
-use native.Mathlib.Omega.{arith}
+use mathlib.Core.Bool.{Bool, false, _&&_, false≢true}
 use lib.Dec.{eqb}
 use borrow.Author.Tests.{eqb-true}
-use Rattle.words.proofs.Bools.{Is, and-l, and-r, and-none, by-cond}
+use Rattle.words.proofs.Bools.{Is, and-l, and-r}
 use Rattle.shape.specs.declared.Shape.{Shape}
-use Rattle.shape.specs.Shape.{inRange, entries}
+use Rattle.shape.specs.Shape.{inRange, entries, rangesEnd}
+use Rattle.shape.proofs.Refusals.{accepted-all, not-nine}
 use Rattle.lengths.specs.Lengths.{tablesFit, bytesFit, refusalBy}
 
 -- Tables that fit, length by length.
@@ -24,6 +24,7 @@ tables-fitting s tags states words f =
 -- All that refusal 0 says of what is lent.
 pub record Fits (s : Shape) (memory tags states words : ℕ) (out : Bool) : Type 0 where
   pub range : Is (inRange s)
+  pub ends : Is (rangesEnd s)
   pub memory-fits : memory ≡ 8 * s .lines
   pub tags-fit : tags ≡ 4 * entries s
   pub states-fit : states ≡ entries s
@@ -31,26 +32,17 @@ pub record Fits (s : Shape) (memory tags states words : ℕ) (out : Bool) : Type
   pub out-fits : Is out
 
 module _ (s : Shape) (memory tags states words : ℕ) (out : Bool) where
-  abbrev fit : Bool
-  fit = bytesFit s memory tags states words
-
-  accepted-all : refusalBy s memory tags states words out ≡ 0 → Is (inRange s) × Is (fit && out)
-  unfolding refusalBy
-  accepted-all =
-      by-cond (λ n. n ≡ 0 → Is (inRange s) × Is (fit && out)) (inRange s) (cond (fit && out) 0 3) 2
-      (λ r. by-cond (λ n. n ≡ 0 → Is (inRange s) × Is (fit && out)) (fit && out) 0 3 (λ h _. (r, h)) (λ _ e. absurd (omega (arith, e))))
-      (λ _ e. absurd (omega (arith, e)))
-
   pub accepted-fits : refusalBy s memory tags states words out ≡ 0 → Fits s memory tags states words out
-  unfolding bytesFit
+  unfolding bytesFit refusalBy
   accepted-fits e =
-      let a = accepted-all e in
+      let a = accepted-all s (bytesFit s memory tags states words && out) e in
       let m = eqb memory (8 * s .lines) in
       let g = tablesFit s tags states words in
       let z : Is (m && g) = and-l (m && g) out (a .1) in
       let t = tables-fitting s tags states words (and-r m g z) in
       record {
         range = a .0;
+        ends = a .2;
         memory-fits = eqb-true _ _ (and-l m g z);
         tags-fit = t .0;
         states-fit = t .1;
@@ -61,15 +53,11 @@ module _ (s : Shape) (memory tags states words : ℕ) (out : Bool) where
 pub out-fits : (s : Shape) (memory tags states words : ℕ) (out : Bool) {n : ℕ} → n ≡ refusalBy s memory tags states words out → n ≡ 0 → Is out
 out-fits s memory tags states words out e z = accepted-fits s memory tags states words out (sym e ∙ z) .out-fits
 
--- Refusal 2 or 3 of what is lent is not 9.
-pub low : (s : Shape) (memory tags states words : ℕ) (out : Bool) → refusalBy s memory tags states words out < 9
+-- None of these refusals is 9.
+pub never-nine : (s : Shape) (memory tags states words : ℕ) (out : Bool) → refusalBy s memory tags states words out ≢ 9
 unfolding refusalBy
-low s memory tags states words out =
-    by-cond (λ n. n < 9) (inRange s) _ _
-    (λ _. by-cond (λ n. n < 9) (bytesFit s memory tags states words && out) _ _ (λ _. omega arith) (λ _. omega arith)) (λ _. omega arith)
+never-nine s memory tags states words out = not-nine s (bytesFit s memory tags states words && out)
 
 -- Without room for what is written to, there is a refusal.
 pub some-refusal : (s : Shape) (memory tags states words : ℕ) → refusalBy s memory tags states words false ≢ 0
-unfolding refusalBy
-some-refusal s memory tags states words =
-    by-cond (λ n. n ≢ 0) (inRange s) _ _ (λ _. rw (and-none (bytesFit s memory tags states words)) (λ e. omega (arith, e))) (λ _ e. omega (arith, e))
+some-refusal s memory tags states words e = false≢true (accepted-fits s memory tags states words false e .out-fits)

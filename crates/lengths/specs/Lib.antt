@@ -1,2 +1,2 @@
--- Refusals 2 and 3 of what a host lends.
+-- Refusals 2, 3 and 12 of what a host lends.
 pub mod Lengths

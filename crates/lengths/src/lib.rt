@@ -1,4 +1,4 @@
-// Refusals 2 and 3 of what a host lends: the shape, and the lengths of the slices in bytes.
+// Refusals 2, 3 and 12 of what a host lends: the shape, and the lengths of the slices in bytes.
 use shape::Shape;
 ghost use mathlib.Core.Path.{_≡_};
 ghost use mathlib.Core.Bool.{true};
@@ -22,7 +22,7 @@ fn bytes_fit(shape: Shape, memory: usize, tags: usize, states: usize, data: usiz
     (memory == 8 * shape.lines) & tables_fit(shape, tags, states, data)
 }
 
-// Refusal 2 or 3 of a shape and the lengths of the slices, else 0; out says that the slice written to has its length.
+// Refusal 2, 3 or 12 of a shape and the lengths of the slices, else 0; out says that the slice written to has its length.
 pub fn refusal_by(
     shape: Shape,
     memory: usize,
@@ -34,10 +34,7 @@ pub fn refusal_by(
     ensures { λ r. ⌜ r ≡ refusalBy shape memory tags states «data» out ⌝ }
 {
     if shape.is_in_range() {
-        if bytes_fit(shape, memory, tags, states, data) & out {
-            return 0;
-        }
-        return 3;
+        return shape.fit_refusal(bytes_fit(shape, memory, tags, states, data) & out);
     }
     2
 }

@@ -19,7 +19,7 @@ use Rattle.model.specs.declared.order.Call.the-variants.{ByPort, Flush, 
 use Rattle.model.specs.declared.order.Decoded.{Decoded}
 use Rattle.model.specs.declared.order.Decoded.the-variants.{Asked, Refused}
 use Rattle.model.specs.Order.{Order, kinds, kindOf, checked, decode, looks}
-use Rattle.shape.specs.Shape.{inRange, fits, refusalOf}
+use Rattle.shape.specs.Shape.{refusalOf}
 use Rattle.model.specs.Tables.{Model, lentRefusal, columnSound, seen, holds, dirty}
 use Rattle.model.specs.Step.{Result, refuse, wordFound, fetches, evictsOwner, accessRule, accessed, flushed, deviceWritten}
 use Rattle.model.specs.Step.{called, perform, step}
@@ -28,6 +28,7 @@ use Rattle.model.specs.declared.found.Found.{Found}
 use Rattle.model.specs.declared.found.Found.the-variants as finds
 use Rattle.model.specs.Below.{Lowest, none, number, lowest}
 use Rattle.model.specs.Find.{holderOr, find, findRefusal, foundRefusal}
+use Rattle.shape.proofs.Refusals.{not-nine}
 use Rattle.model.proofs.Audited.{audit-facts, facts-audit}
 use Rattle.model.proofs.Decoded.{Sound, decode-sound}
 
@@ -102,14 +103,14 @@ perform-fair s t (Refused n) h = (omega arith, not-9 (omega (arith, h)))
 perform-fair s t (Asked c a) h = by-cond Fair (looks c && not (columnSound s t a)) _ _ (λ _. (omega arith, not-9 (omega arith)))
     (λ _. called-fair s t c a)
 
-lent-low : (s : Shape) (t : Model) → lentRefusal s t < 9
+lent-not-nine : (s : Shape) (t : Model) → lentRefusal s t ≢ 9
 unfolding lentRefusal refusalOf
-lent-low s t = by-cond (λ n. n < 9) (inRange s) _ _ (λ _. by-cond (λ n. n < 9) (fits s _ _ _ _) _ _ (λ _. omega arith) (λ _. omega arith)) (λ _. omega arith)
+lent-not-nine s t = not-nine s _
 
 step-fair : (s : Shape) (o : Order) (t : Model) → Fair (step s o t)
 unfolding step
 step-fair s o t = by-cond Fair (eqb (lentRefusal s t) 0) _ _ (λ _. perform-fair s t (decode s o) (decode-sound s o))
-    (λ _. (omega arith, not-9 (lent-low s t)))
+    (λ _. (omega arith, lent-not-nine s t))
 
 pub swapped-once : SwappedOnce
 swapped-once s o t = step-fair s o t .0

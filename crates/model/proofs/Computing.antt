@@ -4,8 +4,9 @@ use Rattle.protocol.specs.State.{code, stateOf}
 use Rattle.words.specs.Word.{merge, mergeLow}
 use Rattle.words.specs.Access.{effectAt}
 use Rattle.protocol.specs.Rules.{rule, flushRule, snooped, updates}
-use Rattle.shape.specs.Shape.{inRange, fits, refusalOf}
-use Rattle.model.specs.Order.{decode, checked, callOf}
+use Rattle.shape.specs.Range.{inside, endsBy}
+use Rattle.shape.specs.Shape.{inRange, fits, rangesEnd, fitRefusal, refusalOf}
+use Rattle.model.specs.Order.{modeInForce, decode, checked, callOf}
 use Rattle.model.specs.Below.{allBelow, anyBelow, orElse, lowest, atOr}
 use Rattle.model.specs.Tables.{lentRefusal, sound, seen, wordAt, dirty, columnSound}
 use Rattle.model.specs.Step.{putBelow, wordSupplied, byteAnswered, wordAnswered, shared, wordFound, fetches, evictsOwner, byteAfter, wordAfter}
@@ -13,7 +14,7 @@ use Rattle.model.specs.Step.{applied, accessRule, accessed, flushed, dev
 use Rattle.model.specs.Fresh.{zeroed, fresh}
 
 unfoldable pub computing : Unit {0}
-unfolding code stateOf merge mergeLow effectAt rule flushRule snooped updates inRange fits refusalOf decode checked callOf allBelow anyBelow orElse
-    lowest atOr lentRefusal sound seen wordAt dirty columnSound putBelow wordSupplied byteAnswered wordAnswered shared wordFound fetches evictsOwner
+unfolding code stateOf merge mergeLow effectAt rule flushRule snooped updates inside endsBy inRange fits rangesEnd fitRefusal refusalOf modeInForce decode checked callOf
+    allBelow anyBelow orElse lowest atOr lentRefusal sound seen wordAt dirty columnSound putBelow wordSupplied byteAnswered wordAnswered shared wordFound fetches evictsOwner
     byteAfter wordAfter applied accessRule accessed flushed deviceWritten called perform step zeroed fresh
 computing = tt

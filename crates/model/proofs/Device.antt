@@ -52,19 +52,22 @@ without-start : (es : List Event) → SetSince (neither ∷ es) → SetSince es
 without-start es (zero, h, f) = absurd (neither≢sets h)
 without-start es (suc n, h, f) = (n, h, λ k l. f (suc k) (omega arith))
 
--- Main memory has the flat word.
+-- From a fresh model on, a mark is 0 where no event set it since the last that cleared it,
+pub mark-clear : (s : Shape) (t : Model) → lentRefusal s t ≡ 0 → (os : List Order) (a : ℕ) → a < s .lines
+    → (SetSince (eventsOf s a os (flatStart (t .memory))) → ⊥) → markIn (flatRun s os (flatStart (t .memory))) a ≡ false
+unfolding flatStart
+mark-clear s t accepted os a l clear =
+    let none : markIn (flatStart (t .memory)) a ≡ false = no-marks (length (t .memory)) a in
+    mark-says s a os (flatStart (t .memory)) (rw (fresh-sim s t accepted .flat-marks) l) .1
+    (λ d. clear (without-start (eventsOf s a os (flatStart (t .memory))) (rw none at d)))
+
+-- and then main memory has the flat word.
 memory-has : (s : Shape) (t : Model) → lentRefusal s t ≡ 0 → (os : List Order) (a : ℕ) → a < s .lines
     → (SetSince (eventsOf s a os (flatStart (t .memory))) → ⊥) → memoryAt (modelRun s os (fresh s t)) a ≡ wordIn
     (flatRun s os (flatStart (t .memory))) a
-unfolding flatStart
 memory-has s t accepted os a l clear =
-    let start = fresh-sim s t accepted in
-    let sim = run-sim s os (fresh s t) (flatStart (t .memory)) start in
-    let none : markIn (flatStart (t .memory)) a ≡ false = no-marks (length (t .memory)) a in
-    let mark : markIn (flatRun s os (flatStart (t .memory))) a ≡ false =
-    mark-says s a os (flatStart (t .memory)) (rw (start .flat-marks) l) .1
-    (λ d. clear (without-start (eventsOf s a os (flatStart (t .memory))) (rw none at d))) in
-    sim .good a l .clean (sim .unmarked a l (ap not mark))
+    let sim = run-sim s os (fresh s t) (flatStart (t .memory)) (fresh-sim s t accepted) in
+    sim .good a l .clean (sim .unmarked a l (ap not (mark-clear s t accepted os a l clear)))
 
 pub device-guarantee : DeviceGuarantee
 unfolding step perform called

@@ -1,24 +1,25 @@
--- Tables that fresh, the step and the audit accept: refusals 2 and 3 against plain facts. Assumes nothing.
+-- Tables that fresh, the step and the audit accept: refusals 2, 3 and 12 against plain facts. Assumes nothing.
 use mathlib.Core.Path.{_≡_}
-use mathlib.Core.Bool.{Bool, cond, _&&_}
-use native.Mathlib.Omega.{arith}
+use mathlib.Core.Bool.{Bool, _&&_}
 use lib.ListN.{length}
 use lib.Dec.{eqb}
 use borrow.Author.Tests.{eq-eqb, eqb-true}
-use Rattle.words.proofs.Bools.{Is, and-l, and-r, both, by-cond}
+use Rattle.words.proofs.Bools.{Is, and-l, and-r, both}
 use Rattle.shape.specs.declared.Shape.{Shape}
-use Rattle.shape.specs.Shape.{inRange, fits, refusalOf, entries}
+use Rattle.shape.specs.Shape.{inRange, fits, rangesEnd, fitRefusal, refusalOf, entries}
+use Rattle.shape.proofs.Refusals.{accepted-all}
 use Rattle.model.specs.Tables.{Model, lentRefusal}
 use Rattle.model.proofs.Entries.{Sized}
 
--- The shape is in its range, and memory and tables have its lengths.
+-- The shape is within its limits, memory and tables have its lengths, and no range ends beyond lines.
 pub record Lent (s : Shape) (t : Model) : Type 0 where
   pub range : Is (inRange s)
   pub sizes : Sized s t
+  pub ends : Is (rangesEnd s)
 
 -- No order changes a length.
 pub relent : {s : Shape} {t t′ : Model} → Lent s t → Sized s t′ → Lent s t′
-relent l z = record { range = l .range; sizes = z }
+relent l z = record { range = l .range; sizes = z; ends = l .ends }
 
 abbrev lengthsFit : Shape → Model → Bool
 lengthsFit s t = fits s (length (t .memory)) (length (t .tags)) (length (t .states)) (length (t .words))
@@ -43,12 +44,8 @@ facts-sized s t z = both (both (both (eq-eqb _ _ (z .memory)) (eq-eqb _ _ (z .ta
 
 pub lent-facts : (s : Shape) (t : Model) → lentRefusal s t ≡ 0 → Lent s t
 unfolding lentRefusal refusalOf
-lent-facts s t =
-    by-cond (λ n. n ≡ 0 → Lent s t) (inRange s) (cond (lengthsFit s t) 0 3) 2
-    (λ r. by-cond (λ n. n ≡ 0 → Lent s t) (lengthsFit s t) 0 3 (λ z _. record { range = r; sizes = sized-facts s t z })
-    (λ _ e. absurd (omega (arith, e))))
-    (λ _ e. absurd (omega (arith, e)))
+lent-facts s t z = let a = accepted-all s (lengthsFit s t) z in record { range = a .0; sizes = sized-facts s t (a .1); ends = a .2 }
 
 pub facts-lent : (s : Shape) (t : Model) → Lent s t → lentRefusal s t ≡ 0
-unfolding lentRefusal refusalOf
-facts-lent s t l = rw (l .range, facts-sized s t (l .sizes))
+unfolding lentRefusal refusalOf fitRefusal
+facts-lent s t l = rw (l .range, facts-sized s t (l .sizes), l .ends)

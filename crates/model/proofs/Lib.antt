@@ -14,6 +14,7 @@ pub mod Agree
 pub mod Theorem
 pub mod Marks
 pub mod Device
+pub mod InRanges
 pub mod Claims
 pub mod Computing
 pub mod Examples

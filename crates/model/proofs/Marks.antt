@@ -59,7 +59,7 @@ access-event f acc Back i a r moves h =
     (moves .mark h ∙ set-or (writes (effectAt acc (wordIn f a) .outcome)) (markIn f a))
 
 -- An access of another line is no event.
-other-event : (acc : Access) (m : Mode) (i a b n : ℕ) → b ≢ a → eventOf a (Asked (ByPort acc m i) b) n ≡ neither
+pub other-event : (acc : Access) (m : Mode) (i a b n : ℕ) → b ≢ a → eventOf a (Asked (ByPort acc m i) b) n ≡ neither
 unfolding eventOf
 other-event acc Through i a b n d = rw (ne-eqb b a d)
 other-event acc Back i a b n d = rw (ne-eqb b a d)
@@ -105,7 +105,7 @@ neither≢sets p = let z : _≡_ {A = ℕ} 0 1 = cc in omega arith
 neither≢clears : neither ≢ clears
 neither≢clears p = let z : _≡_ {A = ℕ} 0 1 = cc in omega arith
 
-sets≢clears : sets ≢ clears
+pub sets≢clears : sets ≢ clears
 sets≢clears p = let z : _≡_ {A = ℕ} 0 1 = cc in omega arith
 
 -- No event that clears after number n, in a list with one event fewer or more in front.

@@ -13,7 +13,7 @@ abbrev pub holderOr : Lowest → Found
 holderOr none = Memory
 holderOr (number p) = Holder p
 
--- Refusal 2, 3, 6 or 8, else the lowest-numbered holder, else memory.
+-- Refusal 2, 3, 12, 6 or 8, in checking order, else the lowest-numbered holder, else memory.
 unfoldable pub find : Shape → Model → ℕ → Found
 find s t a =
     cond (eqb (lentRefusal s t) 0)

@@ -10,6 +10,7 @@ use Rattle.protocol.specs.State.{code}
 use Rattle.protocol.specs.Coded.{modeNumber}
 use Rattle.shape.specs.declared.Shape.{Shape}
 use Rattle.model.specs.declared.answer.Answer.{Answer}
+use Rattle.shape.specs.Shape.{unranged}
 use Rattle.model.specs.Order.{Order, bits}
 use Rattle.model.specs.Tables.{Model, model, seen, memoryAt}
 use Rattle.model.specs.Step.{step}
@@ -69,9 +70,9 @@ table =
     row (read 2 0 Through) (answer 5 0 0 0 0) 0 0 4 255 ∷
     []
 
--- Two ports, one set, two lines, memory 5 and 7, and what fresh leaves of tables full of ones.
+-- Two ports, one set, two lines, no ranges, memory 5 and 7, and what fresh leaves of tables full of ones.
 unfoldable pub twoPorts : Shape
-twoPorts = record { ports = 2; sets = 1; lines = 2 }
+twoPorts = unranged 2 1 2
 
 unfoldable pub start : Model
 start = fresh twoPorts (model (5 ∷ 7 ∷ []) (1 ∷ 1 ∷ []) (1 ∷ 1 ∷ []) (1 ∷ 1 ∷ []))

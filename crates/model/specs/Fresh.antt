@@ -10,6 +10,6 @@ use Rattle.model.specs.Tables.{Model, model, lentRefusal}
 unfoldable pub zeroed : Shape → Model → Model
 zeroed s t = model (t .memory) (replicate (entries s) 0) (replicate (entries s) 0) (replicate (entries s) 0)
 
--- What making a fresh model leaves. Its answer is `lentRefusal`; where that is 2 or 3, nothing changes.
+-- What making a fresh model leaves. Its answer is `lentRefusal`; where that is not 0, nothing changes.
 unfoldable pub fresh : Shape → Model → Model
 fresh s t = cond (eqb (lentRefusal s t) 0) (zeroed s t) t

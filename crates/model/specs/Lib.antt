@@ -13,3 +13,5 @@ pub mod Claims
 pub mod Fourteen
 pub mod DeviceWrites
 pub mod SameStores
+pub mod Ranges
+pub mod RangeOrders

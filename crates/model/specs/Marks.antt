@@ -22,7 +22,8 @@ use Rattle.model.specs.Fresh.{fresh}
 use Rattle.model.specs.Flat.{Flat, wordIn, markIn, flatStep, flatStart}
 
 -- What an order is to the mark of a line: `sets`, an accepted write-back write or successful write-back swap of it; `clears`, an accepted
--- write-through read, write or compare-and-swap of it, or an accepted device write of it; or neither, as a flush or a device read.
+-- write-through read, write or compare-and-swap of it, or an accepted device write of it; or neither, as a flush or a device read. The mode is
+-- the one in force on the line.
 pub data Event : Type 0 where
   sets clears neither : Event
 

@@ -10,6 +10,7 @@ use Rattle.model.specs.declared.order.Call.{Call}
 use Rattle.model.specs.declared.order.Call.the-variants.{ByPort, Flush, DeviceRead, DeviceWrite}
 use Rattle.model.specs.declared.order.Decoded.{Decoded}
 use Rattle.model.specs.declared.order.Decoded.the-variants.{Asked, Refused}
+use Rattle.shape.specs.Range.{inside}
 
 pub record Order : Type 0 where
   pub word : ℕ
@@ -27,9 +28,13 @@ kinds = 6
 abbrev pub kindOf : Order → ℕ
 kindOf o = bits (o .word) 0 3
 
--- The mode in which an order runs: bit 3, 1 for write back.
-abbrev pub modeIn : ℕ → Mode
-modeIn w = cond (eqb (bits w 3 1) 1) Back Through
+-- The mode in which an order of word w runs on line a: write back inside the scratch range, which is looked up first; write through inside the
+-- device range; elsewhere the word's bit 3 stands, 1 for write back. Nothing else reads that bit.
+unfoldable pub modeInForce : Shape → ℕ → ℕ → Mode
+modeInForce s w a =
+    cond (inside (s .scratch) a) Back
+    (cond (inside (s .device) a) Through
+    (cond (eqb (bits w 3 1) 1) Back Through))
 
 -- The kinds that name a port: read, write, compare-and-swap and flush.
 abbrev pub hasPort : ℕ → Bool
@@ -63,7 +68,7 @@ decode s o =
     let mask = bits (o .word) 8 8 in
     let line = bits (o .word) 16 16 in
     let compare = bits (o .word) 32 32 in
-    checked s kind port mask line (callOf kind (modeIn (o .word)) port mask compare (o .operand))
+    checked s kind port mask line (callOf kind (modeInForce s (o .word) line) port mask compare (o .operand))
 
 -- The call looks at the ports' entries at its line's index: all but a device read.
 abbrev pub looks : Call → Bool

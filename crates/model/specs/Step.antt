@@ -146,6 +146,6 @@ unfoldable pub perform : Shape → Model → Decoded → Result
 perform s t (Refused n) = refuse n t
 perform s t (Asked c a) = cond (looks c && not (columnSound s t a)) (refuse 8 t) (called s t c a)
 
--- Refusals 2 and 3 come first, then those of the order.
+-- Refusals 2, 3 and 12 come first, then those of the order.
 unfoldable pub step : Shape → Order → Model → Result
 step s o t = cond (eqb (lentRefusal s t) 0) (perform s t (decode s o)) (refuse (lentRefusal s t) t)

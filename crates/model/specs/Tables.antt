@@ -22,7 +22,7 @@ pub record Model : Type 0 where
 abbrev pub model : List ℕ → List ℕ → List ℕ → List ℕ → Model
 model memory tags states words = record { memory = memory; tags = tags; states = states; words = words }
 
--- Refusal 2 or 3 of what is lent, else 0.
+-- Refusal 2, 3 or 12 of what is lent, else 0.
 unfoldable pub lentRefusal : Shape → Model → ℕ
 lentRefusal s t = refusalOf s (length (t .memory)) (length (t .tags)) (length (t .states)) (length (t .words))
 

@@ -4,9 +4,11 @@
 use counters::lent;
 use letters::Way;
 use shape::Shape;
+use shape::range::Range;
 ghost use mathlib.Core.Path.{_≡_};
 ghost use mathlib.Core.List.{[]};
 ghost use Rattle.words.specs.Bools.{bit};
+ghost use Rattle.shape.specs.Shape.{shapeOf, unranged};
 ghost use Rattle.decode.specs.Order.{order};
 ghost use Rattle.ports.specs.Bytes.{bytes};
 ghost use Rattle.host.specs.Host.{hosted, hostStep, hostFresh, hostAudit};
@@ -20,6 +22,10 @@ pub extern "C" fn moesi_step(
     ports: usize,
     sets: usize,
     lines: usize,
+    scratch_first: usize,
+    scratch_count: usize,
+    device_first: usize,
+    device_count: usize,
     word: u64,
     operand: u64,
     memory: &mut [u8],
@@ -29,10 +35,22 @@ pub extern "C" fn moesi_step(
     answer: &mut [u8],
 ) -> u64
     ensures { λ r. ⌜ hosted r (bytes (now (memory .exit)) (now (tags .exit)) (now (states .exit)) (now («data» .exit))) (now (answer .exit))
-        ≡ hostStep (record { ports = ports; sets = sets; lines = lines }) (order word operand)
+        ≡ hostStep (shapeOf ports sets lines «scratch_first» «scratch_count» «device_first» «device_count») (order word operand)
         (bytes (now (memory .entry)) (now (tags .entry)) (now (states .entry)) (now («data» .entry))) (now (answer .entry)) ⌝ }
 {
-    let shape = Shape { ports, sets, lines };
+    let shape = Shape {
+        ports,
+        sets,
+        lines,
+        scratch: Range {
+            first: scratch_first,
+            count: scratch_count,
+        },
+        device: Range {
+            first: device_first,
+            count: device_count,
+        },
+    };
     let out = answer.len() == 40;
     let n = lengths::refusal_by(
         shape,
@@ -60,6 +78,10 @@ pub extern "C" fn moesi_step_totals(
     ports: usize,
     sets: usize,
     lines: usize,
+    scratch_first: usize,
+    scratch_count: usize,
+    device_first: usize,
+    device_count: usize,
     word: u64,
     operand: u64,
     memory: &mut [u8],
@@ -71,12 +93,24 @@ pub extern "C" fn moesi_step_totals(
 ) -> u64
     ensures { λ r. ⌜ withRecord (hosted r (bytes (now (memory .exit)) (now (tags .exit)) (now (states .exit)) (now («data» .exit)))
         (now (answer .exit))) (now (totals .exit))
-        ≡ hostStepTotals (record { ports = ports; sets = sets; lines = lines }) (order word operand)
+        ≡ hostStepTotals (shapeOf ports sets lines «scratch_first» «scratch_count» «device_first» «device_count») (order word operand)
         (bytes (now (memory .entry)) (now (tags .entry)) (now (states .entry)) (now («data» .entry))) (now (answer .entry))
         (now (totals .entry)) ⌝ }
 {
     if totals.len() != lent::RECORD_BYTES {
-        let shape = Shape { ports, sets, lines };
+        let shape = Shape {
+            ports,
+            sets,
+            lines,
+            scratch: Range {
+                first: scratch_first,
+                count: scratch_count,
+            },
+            device: Range {
+                first: device_first,
+                count: device_count,
+            },
+        };
         let n = lengths::refusal_by(
             shape,
             memory.len(),
@@ -96,6 +130,10 @@ pub extern "C" fn moesi_step_totals(
         ports,
         sets,
         lines,
+        scratch_first,
+        scratch_count,
+        device_first,
+        device_count,
         word,
         operand,
         memory,
@@ -115,16 +153,32 @@ pub extern "C" fn moesi_fresh(
     ports: usize,
     sets: usize,
     lines: usize,
+    scratch_first: usize,
+    scratch_count: usize,
+    device_first: usize,
+    device_count: usize,
     memory: &[u8],
     tags: &mut [u8],
     states: &mut [u8],
     data: &mut [u8],
 ) -> u64
     ensures { λ r. ⌜ hosted r (bytes (now (memory .entry)) (now (tags .exit)) (now (states .exit)) (now («data» .exit))) []
-        ≡ hostFresh (record { ports = ports; sets = sets; lines = lines })
+        ≡ hostFresh (shapeOf ports sets lines «scratch_first» «scratch_count» «device_first» «device_count»)
         (bytes (now (memory .entry)) (now (tags .entry)) (now (states .entry)) (now («data» .entry))) ⌝ }
 {
-    let shape = Shape { ports, sets, lines };
+    let shape = Shape {
+        ports,
+        sets,
+        lines,
+        scratch: Range {
+            first: scratch_first,
+            count: scratch_count,
+        },
+        device: Range {
+            first: device_first,
+            count: device_count,
+        },
+    };
     let n = lengths::refusal_by(
         shape,
         memory.len(),
@@ -153,6 +207,10 @@ pub extern "C" fn moesi_audit(
     ports: usize,
     sets: usize,
     lines: usize,
+    scratch_first: usize,
+    scratch_count: usize,
+    device_first: usize,
+    device_count: usize,
     memory: &[u8],
     tags: &[u8],
     states: &[u8],
@@ -161,10 +219,22 @@ pub extern "C" fn moesi_audit(
 ) -> u64
     ensures { λ r. ⌜ hosted r (bytes (now (memory .entry)) (now (tags .entry)) (now (states .entry)) (now («data» .entry)))
         (now (verdict .exit))
-        ≡ hostAudit (record { ports = ports; sets = sets; lines = lines })
+        ≡ hostAudit (shapeOf ports sets lines «scratch_first» «scratch_count» «device_first» «device_count»)
         (bytes (now (memory .entry)) (now (tags .entry)) (now (states .entry)) (now («data» .entry))) (now (verdict .entry)) ⌝ }
 {
-    let shape = Shape { ports, sets, lines };
+    let shape = Shape {
+        ports,
+        sets,
+        lines,
+        scratch: Range {
+            first: scratch_first,
+            count: scratch_count,
+        },
+        device: Range {
+            first: device_first,
+            count: device_count,
+        },
+    };
     let out = verdict.len() == 1;
     let n = lengths::refusal_by(
         shape,
@@ -198,13 +268,13 @@ pub extern "C" fn moesi_from_old(
     data_out: &mut [u8],
 ) -> u64
     ensures { λ r. ⌜ conversion r (tables (now («tags_out» .exit)) (now («states_out» .exit)) (now («data_out» .exit)))
-        ≡ convert ToNew (record { ports = ports; sets = sets; lines = lines })
+        ≡ convert ToNew (unranged ports sets lines)
         (tables (now (tags .entry)) (now (states .entry)) (now («data» .entry)))
         (tables (now («tags_out» .entry)) (now («states_out» .entry)) (now («data_out» .entry))) ⌝ }
 {
     edition::convert(
         Way::ToNew,
-        Shape { ports, sets, lines },
+        Shape::unranged(ports, sets, lines),
         tags,
         states,
         data,
@@ -228,13 +298,13 @@ pub extern "C" fn moesi_to_old(
     data_out: &mut [u8],
 ) -> u64
     ensures { λ r. ⌜ conversion r (tables (now («tags_out» .exit)) (now («states_out» .exit)) (now («data_out» .exit)))
-        ≡ convert ToOld (record { ports = ports; sets = sets; lines = lines })
+        ≡ convert ToOld (unranged ports sets lines)
         (tables (now (tags .entry)) (now (states .entry)) (now («data» .entry)))
         (tables (now («tags_out» .entry)) (now («states_out» .entry)) (now («data_out» .entry))) ⌝ }
 {
     edition::convert(
         Way::ToOld,
-        Shape { ports, sets, lines },
+        Shape::unranged(ports, sets, lines),
         tags,
         states,
         data,

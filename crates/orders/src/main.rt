@@ -1,9 +1,10 @@
-// Runs the fourteen orders of the scope, then device writes, then an order of each refusal, through the C interface's functions, and prints
-// for each its place, the five numbers, the state bytes and the words of main memory; and, after each part, the audit and where a line's word
-// stands.
+// Runs the fourteen orders of the scope, then device writes, then orders in ranges, then an order of each refusal, through the C interface's
+// functions, and prints for each its place, the five numbers, the state bytes and the words of main memory; and, after each part, the audit and
+// where a line's word stands.
 // What it prints is kept in the file stdout.
 use model::found::Found;
 use shape::Shape;
+use shape::range::Range;
 
 fn put(n: u64) {
     io::print_decimal(1, n);
@@ -63,6 +64,10 @@ fn show(
         s.ports,
         s.sets,
         s.lines,
+        s.scratch.first,
+        s.scratch.count,
+        s.device.first,
+        s.device.count,
         w,
         x,
         memory,
@@ -112,7 +117,20 @@ fn run(
 // The audit's refusal, and 1 for yes.
 fn audited(memory: &[u8; 16], tags: &[u8; 8], states: &[u8; 2], data: &[u8; 16]) {
     let mut verdict = [0u8; 1];
-    let n = moesi::moesi_audit(2, 1, 2, memory, tags, states, data, &mut verdict);
+    let n = moesi::moesi_audit(
+        2,
+        1,
+        2,
+        0,
+        0,
+        0,
+        0,
+        memory,
+        tags,
+        states,
+        data,
+        &mut verdict,
+    );
     io::write_all(1, b"audit ");
     put(n);
     put(wide(verdict[0]));
@@ -142,12 +160,25 @@ fn look(memory: &[u8; 16], tags: &[u8; 8], states: &[u8; 2], data: &[u8; 16], a:
     put_words(find::view_line(s, &lines, &labels, states, &words, a));
 }
 
-// A shape of one set.
+// A shape of one set, without ranges.
 fn shape_of(ports: usize, lines: usize) -> Shape {
+    Shape::unranged(ports, 1, lines)
+}
+
+// Two ports, one set and two lines, with a scratch range and a device range that start at line 0.
+fn ranged(scratch: usize, device: usize) -> Shape {
     Shape {
-        ports,
+        ports: 2,
         sets: 1,
-        lines,
+        lines: 2,
+        scratch: Range {
+            first: 0,
+            count: scratch,
+        },
+        device: Range {
+            first: 0,
+            count: device,
+        },
     }
 }
 
@@ -221,11 +252,17 @@ const REFUSED: [u64; 14] = [
 // Where an entry is no state: an access, a flush and a device write are refused with 8; a device read looks at no entry.
 const UNSOUND: [u64; 8] = [0x8, 0, 0x13, 0, 0x5, 0, 0x4, 0];
 
-// Refusal 2, nine ports; 3, a memory of two words for one line; and the others.
+// Line 0 in both ranges: a write-through write, which runs write back, and a device read, which misses it; then line 1 in the device range alone: a
+// write-back write, which runs write through, and a device read.
+const RANGES: [u64; 8] = [0xFF01, 9, 0x4, 0, 0x1FF09, 8, 0x10004, 0];
+
+// Refusal 2, nine ports; 3, a memory of two words for one line; 12, a range of three lines of two; and the others.
 fn refusals(memory: &mut [u8; 16], tags: &mut [u8; 8], states: &mut [u8; 2], data: &mut [u8; 16]) {
     let read = [0x8u64, 0];
     run(shape_of(9, 2), memory, tags, states, data, &read);
     run(shape_of(2, 1), memory, tags, states, data, &read);
+    run(ranged(3, 0), memory, tags, states, data, &read);
+    run(ranged(0, 3), memory, tags, states, data, &read);
     run(shape_of(2, 2), memory, tags, states, data, &REFUSED);
     states[0] = 3;
     run(shape_of(2, 2), memory, tags, states, data, &UNSOUND);
@@ -239,13 +276,29 @@ fn main() {
     let mut states = [1u8; 2];
     let mut data = [1u8; 16];
     let s = shape_of(2, 2);
-    moesi::moesi_fresh(2, 1, 2, &memory, &mut tags, &mut states, &mut data);
+    moesi::moesi_fresh(
+        2,
+        1,
+        2,
+        0,
+        0,
+        0,
+        0,
+        &memory,
+        &mut tags,
+        &mut states,
+        &mut data,
+    );
     run(s, &mut memory, &mut tags, &mut states, &mut data, &FOURTEEN);
     audited(&memory, &tags, &states, &data);
     look(&memory, &tags, &states, &data, 0);
     look(&memory, &tags, &states, &data, 1);
     look(&memory, &tags, &states, &data, 2);
     run(s, &mut memory, &mut tags, &mut states, &mut data, &DEVICE);
+    audited(&memory, &tags, &states, &data);
+    look(&memory, &tags, &states, &data, 1);
+    let r = ranged(1, 2);
+    run(r, &mut memory, &mut tags, &mut states, &mut data, &RANGES);
     audited(&memory, &tags, &states, &data);
     look(&memory, &tags, &states, &data, 1);
     refusals(&mut memory, &mut tags, &mut states, &mut data);

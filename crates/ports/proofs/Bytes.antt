@@ -23,7 +23,7 @@ refilled f a b c = record { tags-fit = a ∙ f .tags-fit; states-fit = b ∙ f .
 pub refitted : {s : Shape} {b : Bytes} (b' : Bytes) → Fitting s b → length (b' .memory) ≡ length (b .memory)
     → length (b' .tags) ≡ length (b .tags) → length (b' .states) ≡ length (b .states)
     → length (b' .words) ≡ length (b .words) → Fitting s b'
-refitted b' f em eg eh ed = record { range = f .range; memory-fits = em ∙ f .memory-fits; filled = refilled (f .filled) eg eh ed }
+refitted b' f em eg eh ed = record { range = f .range; ends = f .ends; memory-fits = em ∙ f .memory-fits; filled = refilled (f .filled) eg eh ed }
 
 module _ {s : Shape} {b : Bytes} (f : Fitting s b) where
   -- The model that fitting bytes hold is accepted.
@@ -31,6 +31,7 @@ module _ {s : Shape} {b : Bytes} (f : Fitting s b) where
   unfolding modelIn
   lent = facts-lent s (modelIn s b) (record {
     range = f .range;
+    ends = f .ends;
     sizes = record {
       memory = length-numbers 8 (s .lines) (b .memory);
       tags = length-numbers 4 (entries s) (b .tags);

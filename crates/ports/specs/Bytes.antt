@@ -6,7 +6,7 @@ use mathlib.Core.List.{List, []}
 use lib.ListN.{length}
 use Rattle.endian.specs.Little.{numbers}
 use Rattle.shape.specs.declared.Shape.{Shape}
-use Rattle.shape.specs.Shape.{inRange, entries}
+use Rattle.shape.specs.Shape.{inRange, entries, rangesEnd}
 use Rattle.model.specs.Tables.{Model, model}
 
 pub record Bytes : Type 0 where
@@ -32,8 +32,9 @@ pub record Filled (s : Shape) (tags states words : List ℕ) : Type 0 where
   pub states-fit : length states ≡ entries s
   pub words-fit : length words ≡ 8 * entries s
 
--- The shape is in range, and memory's bytes and the tables' are as many as it gives.
+-- The shape is within its limits, its ranges end within lines, and memory's bytes and the tables' are as many as it gives.
 pub record Fitting (s : Shape) (b : Bytes) : Type 0 where
   pub range : inRange s ≡ true
+  pub ends : rangesEnd s ≡ true
   pub memory-fits : length (b .memory) ≡ 8 * s .lines
   pub filled : Filled s (b .tags) (b .states) (b .words)

@@ -9,7 +9,7 @@ use Rattle.ports.specs.declared.line.Line.{Line}
 unfoldable pub lineOf : Shape → ℕ → Line
 lineOf s a = record { shape = s; number = a; place = placeOf s a }
 
--- The shape is in range, the line is there, and the place is its own.
+-- The shape is within its limits, the line is there, and the place is its own.
 pub record Placed (l : Line) : Type 0 where
   pub range : inRange (l .shape) ≡ true
   pub below : l .number < l .shape .lines

@@ -8,7 +8,7 @@ use native.Mathlib.Omega.{arith}
 use lib.ListN.{length, take, drop, replicate}
 use borrow.Author.Tests.{eq-eqb, ne-eqb}
 use Rattle.shape.specs.declared.Shape.{Shape}
-use Rattle.shape.specs.Shape.{entries, inRange}
+use Rattle.shape.specs.Shape.{entries, inRange, rangesEnd}
 use Rattle.model.specs.Tables.{Model}
 use Rattle.model.specs.Fresh.{zeroed}
 use Rattle.model.specs.Audit.{audit}
@@ -56,9 +56,10 @@ module _ (s : Shape) (h : inRange s ≡ true) where
     zeroBytes = bytes (take (8 * s .lines) (replicate 32768 0)) (take (4 * n) (replicate 2048 0)) (take n (replicate 512 0)) (take (8 * n) (replicate 4096 0))
 
     -- Slices of these lengths fit the shape, whatever they hold.
-    pub start-fits : {m g t d : List ℕ} → length m ≡ 8 * s .lines → length g ≡ 4 * n → length t ≡ n → length d ≡ 8 * n → Fitting s (bytes m g t d)
-    start-fits em eg et ed = record {
+    pub start-fits : rangesEnd s ≡ true → {m g t d : List ℕ} → length m ≡ 8 * s .lines → length g ≡ 4 * n → length t ≡ n → length d ≡ 8 * n → Fitting s (bytes m g t d)
+    start-fits ends em eg et ed = record {
       range = h;
+      ends = ends;
       memory-fits = em;
       filled = record { tags-fit = eg ∙ ap (λ (x : ℕ). 4 * x) e; states-fit = et ∙ e; words-fit = ed ∙ ap (λ (x : ℕ). 8 * x) e };
     }

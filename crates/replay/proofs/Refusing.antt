@@ -10,7 +10,8 @@ use lib.Dec.{eqb, ltb}
 use borrow.Author.Tests.{lt-ltb, le-ltb, eq-eqb, ne-eqb, eqb-true, ltb-false, not-false}
 use Rattle.words.proofs.Bools.{neither}
 use Rattle.shape.specs.declared.Shape.{Shape}
-use Rattle.shape.specs.Shape.{inRange}
+use Rattle.shape.specs.Range.{endsBy}
+use Rattle.shape.specs.Shape.{inRange, rangesEnd}
 use Rattle.replay.specs.Trace.{shapeIn, ordersIn, traceRefusal}
 
 -- A trace that is not refused.
@@ -36,8 +37,9 @@ module _ (bs : List ℕ) where
 
   -- The same of the sizes as read.
   pub whole-is : {n : ℕ} → n ≡ traceRefusal bs → n ≡ 0 → {s : Shape} → s ≡ shapeIn bs → {k : ℕ} → k ≡ ordersIn bs
-      → (inRange s ≡ true) × ((k ≤ 2048) × (length bs ≡ 16 + 16 * k))
-  whole-is e z es ek = let w = whole e z in (rw es (w .range), (rw ek (w .few), rw ek (w .fits)))
+      → (inRange s ≡ true) × ((rangesEnd s ≡ true) × ((k ≤ 2048) × (length bs ≡ 16 + 16 * k)))
+  unfolding rangesEnd endsBy
+  whole-is e z es ek = let w = whole e z in (rw es (w .range), (rw es refl, (rw ek (w .few), rw ek (w .fits))))
 
   pub refused-short : length bs < 16 → 1 ≡ traceRefusal bs
   unfolding traceRefusal

@@ -4,6 +4,7 @@ use mathlib.Core.Path.{_≡_}
 use mathlib.Core.Bool.{true}
 use mathlib.Core.List.{List, [], _∷_, _++_}
 use Rattle.endian.specs.Little.{encoded}
+use Rattle.shape.specs.Shape.{unranged}
 use Rattle.replay.specs.Trace.{played, answersOf}
 
 -- Sizes 2, 1, 2, 3, words 0xFF09, 0x10, 0x20 and operands 9, 0, 0.
@@ -12,5 +13,5 @@ example = encoded 4 (2 ∷ 1 ∷ 2 ∷ 3 ∷ []) ++ encoded 8 (0xFF09 ∷ 0x10 �
 
 abbrev pub ExampleHolds : Type 0
 ExampleHolds =
-    (played example ≡ record { refusal = 0; shape = record { ports = 2; sets = 1; lines = 2 }; orders = 3; passes = true })
+    (played example ≡ record { refusal = 0; shape = unranged 2 1 2; orders = 3; passes = true })
     × (answersOf example ≡ 0 ∷ 0 ∷ 0 ∷ 1 ∷ 0 ∷ 0 ∷ 9 ∷ 0 ∷ 0 ∷ 1 ∷ 5 ∷ 0 ∷ 0 ∷ 0 ∷ 0 ∷ [])

@@ -7,7 +7,7 @@ use lib.Dec.{eqb, ltb}
 use Rattle.endian.specs.Little.{number}
 use Rattle.shape.specs.declared.Shape.{Shape}
 use Rattle.model.specs.declared.answer.Answer.{Answer}
-use Rattle.shape.specs.Shape.{inRange}
+use Rattle.shape.specs.Shape.{unranged, inRange}
 use Rattle.model.specs.Order.{Order}
 use Rattle.model.specs.Tables.{Model, model}
 use Rattle.model.specs.Step.{step}
@@ -16,9 +16,9 @@ use Rattle.model.specs.Audit.{audit}
 use Rattle.model.specs.Marks.{modelRun}
 use Rattle.replay.specs.declared.Played.{Played}
 
--- A trace starts with four 32-bit sizes: ports, sets, lines, orders.
+-- A trace starts with four 32-bit sizes: ports, sets, lines, orders. It carries no ranges, and both are empty.
 abbrev pub shapeIn : List ℕ → Shape
-shapeIn bs = record { ports = number 4 (drop 0 bs); sets = number 4 (drop 4 bs); lines = number 4 (drop 8 bs) }
+shapeIn bs = unranged (number 4 (drop 0 bs)) (number 4 (drop 4 bs)) (number 4 (drop 8 bs))
 
 abbrev pub ordersIn : List ℕ → ℕ
 ordersIn bs = number 4 (drop 12 bs)
@@ -71,7 +71,7 @@ start s = zeroed s (model (replicate (s .lines) 0) [] [] [])
 
 -- A refused trace answers its number, and zeros.
 abbrev pub refused : ℕ → Played
-refused n = record { refusal = n; shape = record { ports = 0; sets = 0; lines = 0 }; orders = 0; passes = false }
+refused n = record { refusal = n; shape = unranged 0 0 0; orders = 0; passes = false }
 
 -- What a trace yields: its refusal, else its sizes and the audit of the end state.
 unfoldable pub played : List ℕ → Played

@@ -6,7 +6,7 @@ ghost use mathlib.Core.Bool.{true};
 ghost use Prim.Native.Nat.{_+_, _*_, _<_, _≤_, _^_};
 ghost use lib.ListN.{length};
 ghost use lib.Seq.{sets};
-ghost use Rattle.shape.specs.Shape.{inRange};
+ghost use Rattle.shape.specs.Shape.{inRange, rangesEnd};
 ghost use Rattle.model.specs.Audit.{audit};
 ghost use Rattle.model.specs.Marks.{modelRun};
 ghost use Rattle.ports.specs.Bytes.{bytes, modelIn, Fitting};
@@ -25,16 +25,16 @@ pub struct Played {
     pub passes: bool,
 }
 
-// The first three sizes.
+// The first three sizes; a trace carries no ranges.
 pub fn shape_in(trace: &[u8]) -> Shape
     requires { ⌜ 16 ≤ length (now trace) ⌝ }
     ensures { λ r. ⌜ r ≡ shapeIn (now (trace .entry)) ⌝ }
 {
-    Shape {
-        ports: endian::read_four(trace, 0) as usize,
-        sets: endian::read_four(trace, 4) as usize,
-        lines: endian::read_four(trace, 8) as usize,
-    }
+    Shape::unranged(
+        endian::read_four(trace, 0) as usize,
+        endian::read_four(trace, 4) as usize,
+        endian::read_four(trace, 8) as usize,
+    )
 }
 
 // The fourth size.
@@ -148,6 +148,7 @@ fn run_and_audit(
 // middle, after the words.
 fn play_orders(shape: Shape, orders: usize, trace: &[u8], answers: &mut [u64; MAX_NUMBERS]) -> bool
     requires { ⌜ inRange shape ≡ true ⌝ }
+    requires { ⌜ rangesEnd shape ≡ true ⌝ }
     requires { ⌜ (orders ≤ 2048) × (length (now trace) ≡ 16 + 16 * orders) ⌝ }
     ensures { λ r. ⌜ r ≡ audit shape (modelRun shape (traceOrders orders (now (trace .entry))) (start shape)) ⌝ }
     ensures { λ r. ⌜ now (answers .exit) ≡ placed (answersTo shape (traceOrders orders (now (trace .entry))) (start shape)) (now (answers .entry)) ⌝ }
@@ -180,11 +181,7 @@ fn refuse(n: u64) -> Played
 {
     Played {
         refusal: n,
-        shape: Shape {
-            ports: 0,
-            sets: 0,
-            lines: 0,
-        },
+        shape: Shape::unranged(0, 0, 0),
         orders: 0,
         passes: false,
     }

@@ -1,4 +1,4 @@
--- What a shape in range bounds, the limit of tags at an index, and the index as the bits below the sets. Assumes nothing.
+-- What a shape within its limits bounds, the limit of tags at an index, and the index as the bits below the sets. Assumes nothing.
 use Prim.Native.Nat.{ℕ, zero, suc, _+_, _*_, _-_, _/_, _%_, _^_, _<_, _≤_}
 use mathlib.Core.Path.{_≡_, refl, sym, _∙_, subst}
 use mathlib.Core.Bool.{Bool, true, false, _&&_, _||_, false≢true}

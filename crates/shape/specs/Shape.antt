@@ -1,9 +1,28 @@
--- The shape: its ranges, the sizes that follow from it, and where a line's entries lie.
+-- The shape: its limits and its refusals, the sizes that follow from it, and where a line's entries lie.
 use Prim.Native.Nat.{ℕ, _+_, _*_, _-_, _/_, _%_}
 use mathlib.Core.Bool.{Bool, cond, _&&_, _||_}
 use lib.Dec.{eqb, leb}
 use Rattle.shape.specs.declared.Shape.{Shape}
 use Rattle.shape.specs.declared.Place.{Place}
+use Rattle.shape.specs.Range.{range, endsBy}
+
+-- A shape by its seven numbers, in the order in which a host gives them.
+abbrev pub shapeOf : ℕ → ℕ → ℕ → ℕ → ℕ → ℕ → ℕ → Shape
+shapeOf ports sets lines scratchFirst scratchCount deviceFirst deviceCount = record {
+  ports = ports;
+  sets = sets;
+  lines = lines;
+  scratch = range scratchFirst scratchCount;
+  device = range deviceFirst deviceCount;
+}
+
+-- A shape whose two ranges are empty: traces and tables of the old edition carry none.
+abbrev pub unranged : ℕ → ℕ → ℕ → Shape
+unranged ports sets lines = shapeOf ports sets lines 0 0 0 0
+
+-- The same shape without its ranges.
+abbrev pub withoutRanges : Shape → Shape
+withoutRanges s = unranged (s .ports) (s .sets) (s .lines)
 
 abbrev pub within : ℕ → ℕ → ℕ → Bool
 within low high n = leb low n && leb n high
@@ -23,9 +42,18 @@ entries s = s .ports * s .sets
 unfoldable pub fits : Shape → ℕ → ℕ → ℕ → ℕ → Bool
 fits s memory tags states words = eqb memory (s .lines) && eqb tags (entries s) && eqb states (entries s) && eqb words (entries s)
 
--- Refusal 2, a number of the shape outside its range; refusal 3, another length; else 0.
+-- Neither range ends beyond lines. (The numbers of a range have no limits of their own.)
+unfoldable pub rangesEnd : Shape → Bool
+rangesEnd s = endsBy (s .scratch) (s .lines) && endsBy (s .device) (s .lines)
+
+-- Refusal 3, a length that is another than the shape gives, where `fit` is false; then refusal 12, a range that is not empty and ends beyond
+-- lines; else 0.
+unfoldable pub fitRefusal : Shape → Bool → ℕ
+fitRefusal s fit = cond fit (cond (rangesEnd s) 0 12) 3
+
+-- Refusal 2, ports, sets or lines outside its limits; then 3 or 12, of main memory and tables of the lengths given; else 0.
 unfoldable pub refusalOf : Shape → ℕ → ℕ → ℕ → ℕ → ℕ
-refusalOf s memory tags states words = cond (inRange s) (cond (fits s memory tags states words) 0 3) 2
+refusalOf s memory tags states words = cond (inRange s) (fitRefusal s (fits s memory tags states words)) 2
 
 -- Line a has index a mod sets and tag a div sets.
 abbrev pub indexOf : Shape → ℕ → ℕ

@@ -1,15 +1,20 @@
-// The shape of a model, with the limits, sizes and places that follow from it, and the refusals of what is lent.
+// The shape of a model, with the limits, sizes and places that follow from it, its ranges, and the refusals of what is lent.
+pub mod range;
+
+use range::Range;
 ghost use mathlib.Core.Path.{_≡_};
 ghost use mathlib.Core.Bool.{true};
 ghost use Prim.Native.Nat.{_<_, _≤_, _+_, _-_, _/_, _%_, _^_};
-ghost use Rattle.shape.specs.Shape.{isSets, inRange, entries, fits, refusalOf, placeOf};
+ghost use Rattle.shape.specs.Shape.{unranged, isSets, inRange, entries, fits, rangesEnd, fitRefusal, refusalOf, placeOf};
 
-// How many ports there are, how many sets each port's direct-mapped cache has, and how many lines main memory has. (Document 01's word
-// shape.)
+// How many ports there are, how many sets each port's direct-mapped cache has, and how many lines main memory has; the lines on which every
+// access runs write back, and those on which it runs write through, if they are not scratch. (Document 01's word shape.)
 pub struct Shape {
     pub ports: usize,
     pub sets: usize,
     pub lines: usize,
+    pub scratch: Range,
+    pub device: Range,
 }
 
 // Where a line lies: its index and tag, and the number of lines with that index. An entry at the index has a home line below lines
@@ -35,6 +40,19 @@ impl Shape {
 
     pub const MAX_LINES: usize = 4096;
 
+    // A shape whose two ranges are empty.
+    pub fn unranged(ports: usize, sets: usize, lines: usize) -> Shape
+        ensures { λ r. ⌜ r ≡ unranged ports sets lines ⌝ }
+    {
+        Shape {
+            ports,
+            sets,
+            lines,
+            scratch: Range { first: 0, count: 0 },
+            device: Range { first: 0, count: 0 },
+        }
+    }
+
     // The sets are a power of two up to the limit.
     fn has_sets(self) -> bool
         ensures { λ r. ⌜ r ≡ isSets (self .sets) ⌝ }
@@ -52,7 +70,7 @@ impl Shape {
         }
     }
 
-    // Every number is in its range.
+    // Ports, sets and lines are within their limits.
     pub fn is_in_range(self) -> bool
         ensures { λ r. ⌜ r ≡ inRange self ⌝ }
     {
@@ -78,15 +96,35 @@ impl Shape {
         (memory == self.lines) & (tags == n) & (states == n) & (data == n)
     }
 
-    // Refusal 2 or 3 of a shape and the lengths of main memory and the tables, else 0.
+    // Neither range ends beyond lines. Where both are empty, one test says so.
+    fn ranges_end(self) -> bool
+        ensures { λ r. ⌜ r ≡ rangesEnd self ⌝ }
+    {
+        if (self.scratch.count == 0) & (self.device.count == 0) {
+            return true;
+        }
+        self.scratch.ends_by(self.lines) & self.device.ends_by(self.lines)
+    }
+
+    // Refusal 3, where the lengths do not fit; then 12, where a range ends beyond lines; else 0.
+    pub fn fit_refusal(self, fit: bool) -> u64
+        ensures { λ r. ⌜ r ≡ fitRefusal self fit ⌝ }
+    {
+        if !fit {
+            return 3;
+        }
+        if self.ranges_end() {
+            return 0;
+        }
+        12
+    }
+
+    // Refusal 2, 3 or 12 of a shape and the lengths of main memory and the tables, else 0.
     pub fn refusal(self, memory: usize, tags: usize, states: usize, data: usize) -> u64
         ensures { λ r. ⌜ r ≡ refusalOf self memory tags states «data» ⌝ }
     {
         if self.is_in_range() {
-            if self.is_fitting(memory, tags, states, data) {
-                return 0;
-            }
-            return 3;
+            return self.fit_refusal(self.is_fitting(memory, tags, states, data));
         }
         2
     }

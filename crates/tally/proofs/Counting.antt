@@ -12,6 +12,7 @@ use Rattle.decode.specs.Order.{order}
 use Rattle.ports.specs.Bytes.{Bytes, modelIn, Fitting}
 use Rattle.ports.proofs.Bytes.{refitted}
 use Rattle.shape.specs.declared.Shape.{Shape}
+use Rattle.shape.specs.Shape.{unranged}
 use Rattle.model.specs.declared.answer.Answer.{Answer}
 use Rattle.model.specs.Order.{Order, kindOf}
 use Rattle.model.specs.Tables.{Model}
@@ -83,7 +84,7 @@ Yields bs n m = (n ≡ traceRefusal bs) × ((m ≡ tallied bs) × ((k : ℕ) →
 zero-small : (k : ℕ) → totalAt zeros k ≤ 4096
 unfolding totalsWith
 zero-small k =
-    omega (arith, two-to-an-order (record { ports = 0; sets = 0; lines = 0 }) [] (record { memory = []; tags = []; states = []; words = [] }) k)
+    omega (arith, two-to-an-order (unranged 0 0 0) [] (record { memory = []; tags = []; states = []; words = [] }) k)
 
 module _ (bs : List ℕ) {n : ℕ} (e : n ≡ traceRefusal bs) where
   pub tally-refused : n ≢ 0 → {m : Totals} → m ≡ zeros → Yields bs n m

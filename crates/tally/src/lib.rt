@@ -5,7 +5,7 @@ ghost use mathlib.Core.Path.{_≡_};
 ghost use mathlib.Core.Bool.{true};
 ghost use Prim.Native.Nat.{ℕ, _+_, _*_, _≤_};
 ghost use lib.ListN.{getD, length};
-ghost use Rattle.shape.specs.Shape.{inRange};
+ghost use Rattle.shape.specs.Shape.{inRange, rangesEnd};
 ghost use Rattle.decode.specs.Order.{order};
 ghost use Rattle.ports.specs.Bytes.{bytes, modelIn, Fitting};
 ghost use Rattle.replay.specs.Trace.{traceRefusal, ordersOf, traceOrders, start};
@@ -72,6 +72,7 @@ fn count_orders(
 // The orders of a trace that is not refused, on memory and tables of zeros.
 fn tally_orders(shape: Shape, orders: usize, trace: &[u8], row: &mut [u8])
     requires { ⌜ inRange shape ≡ true ⌝ }
+    requires { ⌜ rangesEnd shape ≡ true ⌝ }
     requires { ⌜ (orders ≤ 2048) × (length (now trace) ≡ 16 + 16 * orders) ⌝ }
     requires { ⌜ length (now row) ≡ recordLength ⌝ }
     ensures { λ r. ⌜ totalsIn (now (row .exit)) ≡ totalsWith shape (traceOrders orders (now (trace .entry))) (start shape)

@@ -7,8 +7,8 @@ use Rattle.decode.proofs.decode_order.Tie as tie
 returns : tie.Need-returns
 unfolding decode
 returns c =
-    let after-mode-in : tie.After-mode-in = search in let after-kind-of : tie.After-kind-of = search in
-    rw (c .checked-call .ensures, c .before .call-of .ensures, after-mode-in .mode-in .ensures, after-kind-of .kind-of .ensures)
+    let after-mode-in-force : tie.After-mode-in-force = search in let after-kind-of : tie.After-kind-of = search in
+    rw (c .checked-call .ensures, c .before .call-of .ensures, after-mode-in-force .mode-in-force .ensures, after-kind-of .kind-of .ensures)
 
 pub decode-order-spec : {M : Type 1} → statement M
 decode-order-spec =

@@ -1,4 +1,4 @@
--- Refusals 2 and 3, then the audit, and its yes or no in one byte. Assumes nothing.
+-- Refusals 2, 3 and 12, then the audit, and its yes or no in one byte. Assumes nothing.
 use borrow.Author.Needs.{needs}
 use native.Mathlib.Omega.{arith}
 use lib.ListN.{length}

@@ -1,4 +1,4 @@
--- Refusals 2 and 3, then the order, and its five numbers in bytes. Assumes nothing.
+-- Refusals 2, 3 and 12, then the order, and its five numbers in bytes. Assumes nothing.
 use borrow.Author.Needs.{needs}
 use native.Mathlib.Omega.{arith}
 use mathlib.Core.Path.{sym, _∙_}

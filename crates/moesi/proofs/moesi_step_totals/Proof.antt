@@ -33,7 +33,7 @@ returns-2 c =
 counts-in-requires : tie.Need-counts-in-requires
 counts-in-requires c κs = λ z.
     let after-moesi-step : tie.After-moesi-step = search in
-    after-moesi-step .moesi-step .kept .1 .1 .1 .1 .1 .1 .1 .1 .1 .0 ∙ accepted-wide _ _ _ _ (after-moesi-step .moesi-step .ensures) z
+    after-moesi-step .moesi-step .kept .1 .1 .1 .1 .1 .1 .1 .1 .1 .1 .1 .1 .1 .0 ∙ accepted-wide _ _ _ _ (after-moesi-step .moesi-step .ensures) z
 
 count-requires : tie.Need-count-requires
 count-requires c κs =

@@ -57,7 +57,7 @@ count-orders-requires : tie.Need-count-orders-requires
 count-orders-requires c κs =
     let after-entries : tie.After-entries = search in let start : tie.Start = search in
     let n = entries-few _ (start .pre .0) (after-entries .entries .ensures) in (
-      start-fits _ (start .pre .0) (after-entries .entries .ensures)
+      start-fits _ (start .pre .0) (after-entries .entries .ensures) (start .pre .1 .0)
           (length-take-le _ _ (memory-few _ (start .pre .0)))
           (length-take-le _ _ (omega (arith, n)))
           (length-take-le _ _ n)

@@ -29,7 +29,7 @@ tally-orders-requires c κs =
     let start : tie.Start = search in
     let w = whole-is _ (after-trace-refusal .trace-refusal .ensures) (else-1 .if1 .left) (after-shape-in .shape-in .ensures)
     (after-orders-in .orders-in .ensures .0) in
-    (w .0, (w .1, after-clear-bytes .clear-bytes .kept .0 ∙ start .pre))
+    (w .0, (w .1 .0, (w .1 .1, after-clear-bytes .clear-bytes .kept .0 ∙ start .pre)))
 
 returns-2 : tie.Need-returns-2
 returns-2 c =
@@ -40,7 +40,7 @@ returns-2 c =
     let w = whole-is _ (after-trace-refusal .trace-refusal .ensures) (else-1 .if1 .left) (after-shape-in .shape-in .ensures)
     (after-orders-in .orders-in .ensures .0) in
     tally-counted _ (after-trace-refusal .trace-refusal .ensures) (else-1 .if1 .left) (after-shape-in .shape-in .ensures)
-    (after-orders-in .orders-in .ensures .0) (w .1 .0) (zero-row {n = length (start .args .row .now)} (after-clear-bytes .clear-bytes .ensures) (start .pre))
+    (after-orders-in .orders-in .ensures .0) (w .1 .1 .0) (zero-row {n = length (start .args .row .now)} (after-clear-bytes .clear-bytes .ensures) (start .pre))
     (after-tally-orders .tally-orders .ensures)
 
 pub tally-trace-spec : {M : Type 1} → statement M
