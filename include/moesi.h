@@ -137,6 +137,10 @@
  * changes nothing: to be sure, flush the line from every port, or read it once in
  * write through from any port.
  *
+ * A line in the device range and outside scratch is never written in write back,
+ * so the rule always holds of it: from fresh on a device reads it right, without a
+ * flush.
+ *
  * Stores that leave the word as it was
  * ------------------------------------
  *

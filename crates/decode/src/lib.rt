@@ -6,6 +6,7 @@ use protocol::state::Mode;
 use shape::Shape;
 use words::access::Access;
 ghost use mathlib.Core.Path.{_≡_};
+ghost use mathlib.Core.Bool.{cond};
 ghost use Rattle.model.specs.Order.{bits, modeInForce, checked, callOf, decode};
 ghost use Rattle.decode.specs.Order.{order, accessOf, refusalIn};
 
@@ -16,14 +17,23 @@ pub fn kind_of(w: u64) -> usize
     (w / 1 % 8) as usize
 }
 
+// Write back, or write through.
+fn mode_of(back: bool) -> Mode
+    ensures { λ r. ⌜ r ≡ cond back Mode.Back Mode.Through ⌝ }
+{
+    if back { Mode::Back } else { Mode::Through }
+}
+
 // The mode in which an order of word w runs on line a: write back in the scratch range, which is looked up first, write through in the device
 // range, and elsewhere what bit 3 says. Nothing else reads that bit.
 fn mode_in_force(shape: Shape, w: u64, a: usize) -> Mode
     ensures { λ r. ⌜ r ≡ modeInForce shape w a ⌝ }
 {
     let said = w / 8 % 2 == 1;
-    let back = shape.scratch.has(a) | (!shape.device.has(a) & said);
-    if back { Mode::Back } else { Mode::Through }
+    if shape.has_no_ranges() {
+        return mode_of(said);
+    }
+    mode_of(shape.scratch.has(a) | (!shape.device.has(a) & said))
 }
 
 // What the kinds 0 to 2 ask: read, write, and else compare-and-swap.

@@ -57,6 +57,9 @@ module _ (r : Range) (a : ℕ) where
   pub not-inside : (IsIn r a → ⊥) → inside r a ≡ false
   not-inside n = by-bool (inside r a) (λ h. absurd (n (inside-facts h))) (not-true (inside r a))
 
+  pub empty-outside : Is (eqb (r .count) 0) → inside r a ≡ false
+  empty-outside z = not-inside (λ h. omega (arith, eqb-true (r .count) 0 z, h .0, h .1))
+
   pub ends-beyond : EndsBeyond r a → endsBy r a ≡ false
   unfolding endsBy
   ends-beyond h = rw (ne-eqb (r .count) 0 (λ e. omega (arith, h .0, e)), lt-leb (r .first + r .count) a (h .1))

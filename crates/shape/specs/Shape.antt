@@ -42,6 +42,10 @@ entries s = s .ports * s .sets
 unfoldable pub fits : Shape → ℕ → ℕ → ℕ → ℕ → Bool
 fits s memory tags states words = eqb memory (s .lines) && eqb tags (entries s) && eqb states (entries s) && eqb words (entries s)
 
+-- Both ranges are empty.
+abbrev pub rangesEmpty : Shape → Bool
+rangesEmpty s = eqb (s .scratch .count) 0 && eqb (s .device .count) 0
+
 -- Neither range ends beyond lines. (The numbers of a range have no limits of their own.)
 unfoldable pub rangesEnd : Shape → Bool
 rangesEnd s = endsBy (s .scratch) (s .lines) && endsBy (s .device) (s .lines)

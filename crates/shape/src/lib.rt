@@ -5,7 +5,7 @@ use range::Range;
 ghost use mathlib.Core.Path.{_≡_};
 ghost use mathlib.Core.Bool.{true};
 ghost use Prim.Native.Nat.{_<_, _≤_, _+_, _-_, _/_, _%_, _^_};
-ghost use Rattle.shape.specs.Shape.{unranged, isSets, inRange, entries, fits, rangesEnd, fitRefusal, refusalOf, placeOf};
+ghost use Rattle.shape.specs.Shape.{unranged, isSets, inRange, entries, fits, rangesEmpty, rangesEnd, fitRefusal, refusalOf, placeOf};
 
 // How many ports there are, how many sets each port's direct-mapped cache has, and how many lines main memory has; the lines on which every
 // access runs write back, and those on which it runs write through, if they are not scratch. (Document 01's word shape.)
@@ -96,11 +96,18 @@ impl Shape {
         (memory == self.lines) & (tags == n) & (states == n) & (data == n)
     }
 
-    // Neither range ends beyond lines. Where both are empty, one test says so.
+    // Both ranges are empty: one test, where there are none.
+    pub fn has_no_ranges(self) -> bool
+        ensures { λ r. ⌜ r ≡ rangesEmpty self ⌝ }
+    {
+        (self.scratch.count == 0) & (self.device.count == 0)
+    }
+
+    // Neither range ends beyond lines.
     fn ranges_end(self) -> bool
         ensures { λ r. ⌜ r ≡ rangesEnd self ⌝ }
     {
-        if (self.scratch.count == 0) & (self.device.count == 0) {
+        if self.has_no_ranges() {
             return true;
         }
         self.scratch.ends_by(self.lines) & self.device.ends_by(self.lines)
