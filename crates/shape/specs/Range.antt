@@ -11,11 +11,11 @@ range first count = record { first = first; count = count }
 unfoldable pub inside : Range → ℕ → Bool
 inside r a = leb (r .first) a && ltb a (r .first + r .count)
 
--- The range is empty, wherever it starts, or ends at line number n or before it.
+-- The range is empty, wherever it starts, or all its lines are below n.
 unfoldable pub endsBy : Range → ℕ → Bool
 endsBy r n = eqb (r .count) 0 || leb (r .first + r .count) n
 
--- The same as plain facts: line a is in the range; the range is not empty, and ends beyond n.
+-- The same as plain facts: line a is in the range; the range is not empty, and its last line is not below n.
 abbrev pub IsIn : Range → ℕ → Type 0
 IsIn r a = (r .first ≤ a) × (a < r .first + r .count)
 

@@ -96,7 +96,7 @@ impl Shape {
         (memory == self.lines) & (tags == n) & (states == n) & (data == n)
     }
 
-    // Both ranges are empty: one test, where there are none.
+    // Both ranges are empty. One test, for it is on the way of every step.
     pub fn has_no_ranges(self) -> bool
         ensures { λ r. ⌜ r ≡ rangesEmpty self ⌝ }
     {

@@ -19,7 +19,7 @@ impl Range {
         a - self.first < self.count
     }
 
-    // The range is empty, or ends at line number n or before it.
+    // The range is empty, or all its lines are below n.
     pub fn ends_by(self, n: usize) -> bool
         ensures { λ r. ⌜ r ≡ endsBy self n ⌝ }
     {
