@@ -163,7 +163,7 @@ static void tell_others(struct tables *t, uint64_t port, uint8_t state, int hand
     }
 }
 
-/* Other holders of a line that is read in write back: an owner becomes O, the rest S. */
+/* Other holders of a line that a miss reads in write back: an owner becomes O, the rest S. */
 static void tell_read_back(struct tables *t, uint64_t port)
 {
     for (uint64_t p = 0; p < t->ports; p++) {
@@ -220,6 +220,7 @@ static void hit(struct tables *t, struct order *o, int shared, int owned)
         read_hit(t, o, owned, word);
 }
 
+/* A read, or a swap that fails, of a line that the port doesn't hold: gives the port's state. */
 static uint8_t read_miss(struct tables *t, struct order *o, int shared, int owned, uint64_t word)
 {
     if (o->mode) {
@@ -255,13 +256,8 @@ static void miss(struct tables *t, struct order *o, int shared, int owned, uint6
         if (!o->mode)
             store(t, o, t->line, word);
         state = o->mode ? M : E_THROUGH;
-    } else if (o->kind == READ) {
-        state = read_miss(t, o, shared, owned, word);
     } else {
-        tell_others(t, o->port, I, 0, 0);
-        if (owned && !o->mode)
-            store(t, o, t->line, word);
-        state = owned && o->mode ? M : o->mode ? E_BACK : E_THROUGH;
+        state = read_miss(t, o, shared, owned, word);
     }
     put4(t->tags + 4 * entry, t->tag);
     put8(t->data + 8 * entry, word);

@@ -314,7 +314,7 @@ static inline void write_hit(struct walk *w, size_t entry, unsigned state, uint6
     }
 }
 
-/* What a read miss leaves: the state of the port that missed; the other holders answer. */
+/* A read miss, or a swap miss that fails: gives the state of the port that missed; the other holders answer. */
 static inline unsigned read_miss(struct walk *w, uint64_t word)
 {
     if (!w->mode && w->owners)
@@ -355,13 +355,8 @@ static inline void miss(struct walk *w, size_t entry)
         if (!w->mode)
             store_line(w, w->line, word);
         set_all(w, w->holders, INVALID);
-    } else if (w->kind == READ) {
-        state = read_miss(w, word);
     } else {
-        state = w->owners && w->mode ? MODIFIED : exclusive_in(w->mode);
-        if (w->owners && !w->mode)
-            store_line(w, w->line, word);
-        set_all(w, w->holders, INVALID);
+        state = read_miss(w, word);
     }
     store32(w->tags + 4 * entry, w->tag);
     store64(w->data + 8 * entry, word);

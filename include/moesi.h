@@ -161,6 +161,19 @@
  * moesi_model_clean looks: in a model that passes the audit it says 1 after such a
  * store on E.
  *
+ * Swaps that fail
+ * ---------------
+ *
+ * A swap that does not find its compare value is a read. On all memory and tables
+ * this is proved: where a swap is accepted and answers swapped 0, the five numbers,
+ * memory and the tables are those of a read by the same port of the same line in
+ * the same mode, whether the port holds the line or not. So a port that fails to
+ * take a lock leaves the others their copies. In a model that passes the audit it
+ * shares the line with them from then on, if it had no copy itself: in write back M
+ * and O become O, so that an owner stays the owner, and E and S become S; in write
+ * through all become S, and an owner's word is stored. In a record of totals such
+ * a swap counts as a swap, and not as one that succeeded.
+ *
  * What a device writes
  * --------------------
  *
@@ -470,7 +483,7 @@ static inline uint64_t moesi_order_write(uint64_t port, uint64_t line, uint64_t 
 /*
  * The port compares bits 0-31 of the line's word with compare and, if they are
  * equal, puts bits 0-31 of the operand there. Value is the whole word before,
- * swapped says whether they were equal.
+ * swapped says whether they were equal. If they were not, the order is a read.
  */
 static inline uint64_t moesi_order_swap_lower(uint64_t port, uint64_t line, uint64_t mode, uint32_t compare)
 {

@@ -44,7 +44,7 @@ struct literal {
     uint64_t memory[2];
 };
 
-/* Document 01's list, number by number, as order 4 of document 02 amends its orders 12 and 13. */
+/* Document 01's list, number by number, as orders 4 and 7 of document 02 amend its orders 11 to 13. */
 static const struct literal fourteen[14] = {
     {0x0000000000000008, 0, {0, 5, 0, 1, 0}, {10, 0}, {5, 7}},
     {0x0000000000000018, 0, {0, 5, 0, 1, 0}, {9, 9}, {5, 7}},
@@ -56,9 +56,9 @@ static const struct literal fourteen[14] = {
     {0x0000000900000F1A, 0, {0, 4, 0, 0, 0}, {11, 9}, {9, 7}},
     {0x0000000000010101, 0x1FF, {0, 0, 0, 1, 2}, {2, 0}, {4, 255}},
     {0x0000000000010013, 0, {0, 0, 0, 0, 0}, {2, 0}, {4, 255}},
-    {0x000000010001F01A, 0, {0, 255, 0, 1, 0}, {0, 10}, {4, 255}},
-    {0x0000000000010019, 0, {0, 0, 0, 0, 0}, {0, 10}, {4, 255}},
-    {0x000000010001F002, 0, {0, 255, 0, 1, 0}, {2, 0}, {4, 255}},
+    {0x000000010001F01A, 0, {0, 255, 0, 1, 0}, {9, 9}, {4, 255}},
+    {0x0000000000010019, 0, {0, 0, 0, 0, 0}, {9, 11}, {4, 255}},
+    {0x000000010001F002, 0, {0, 255, 0, 0, 1}, {1, 1}, {4, 255}},
     {0x0000000000000020, 0, {5, 0, 0, 0, 0}, {0, 0}, {4, 255}},
 };
 
@@ -1004,6 +1004,11 @@ static const struct group groups[] = {
     {"every small old set, and its audit", edition_every_set, 3, 0},
     {"converted sets pass the audit if they keep its rules", edition_audits, 100000, 1},
     {"orders on converted sets, and back", edition_orders, 20000, 1},
+    {"swaps that fail, number by number", swaps_numbers, SWAPS_PARTS, 0},
+    {"a swap that fails is a read", swaps_are_reads, 20000, 1},
+    {"a swap that fails is counted as a swap", swaps_are_counted, 10000, 1},
+    {"ports that fight for locks", swaps_for_locks, 8000, 1},
+    {"orders after a swap that failed", swaps_before_others, 160, 1},
 };
 
 enum { GROUPS = sizeof groups / sizeof groups[0] };
@@ -1114,6 +1119,23 @@ static int met_all_stores(const struct tally *tally, uint64_t percent)
     for (int k = 0; k < 3; k++)
         met = met && tally->same_masks[k] >= 100;
     return met;
+}
+
+/* How often the rarest came up of swap misses that fail, on tables that pass the audit or on others. */
+static uint64_t rarest_failed(const struct tally *tally, unsigned broken)
+{
+    const uint64_t *counts = &tally->failed_misses[broken][0][0][0];
+    uint64_t rarest = UINT64_MAX;
+
+    for (unsigned k = 0; k < 2 * SECOND_OTHERS * 2; k++)
+        rarest = counts[k] < rarest ? counts[k] : rarest;
+    return rarest;
+}
+
+/* Whether swap misses that fail met everything, the more often the longer the run. */
+static int met_all_failed(const struct tally *tally, uint64_t percent)
+{
+    return rarest_failed(tally, 0) >= 10 * percent && rarest_failed(tally, 1) >= percent;
 }
 
 /* How often the rarest came up of accesses in and out of the ranges, by kind and the order's mode, and at edges. */
@@ -1261,6 +1283,21 @@ static void print_stores_tally(const struct tally *tally)
     printf("\n");
 }
 
+/* Swap misses that fail, by mode and by what they find. */
+static void print_failed(const struct tally *tally, unsigned broken)
+{
+    printf("  failed swap misses on tables that %s the audit, of nobody's, clean, owned lines",
+           broken ? "fail" : "pass");
+    for (unsigned mode = 0; mode < 2; mode++) {
+        uint64_t met[SECOND_OTHERS];
+
+        for (unsigned others = 0; others < SECOND_OTHERS; others++)
+            met[others] = tally->failed_misses[broken][mode][others][0] + tally->failed_misses[broken][mode][others][1];
+        print_numbers(mode ? ", back:" : ", through:", met, SECOND_OTHERS);
+    }
+    printf("; the rarest %" PRIu64 "\n", rarest_failed(tally, broken));
+}
+
 static void print_ranges_tally(const struct tally *tally)
 {
     static const char *const calls[4] = {"  fresh refused 12", "; step", "; audit", "; with a record"};
@@ -1309,6 +1346,8 @@ static int run_all(struct tester *tester)
         failed += !run_group(tester, number);
     print_tally(&tester->pair.tally, (double)(clock() - start) / CLOCKS_PER_SEC);
     print_stores_tally(&tester->pair.tally);
+    print_failed(&tester->pair.tally, 0);
+    print_failed(&tester->pair.tally, 1);
     print_ranges_tally(&tester->pair.tally);
     print_totals_tally(&tester->pair.tally);
     print_edition_tally(&tester->pair.tally);
@@ -1316,10 +1355,11 @@ static int run_all(struct tester *tester)
     if (failed || tester->from > 0)
         return !failed;
     met = met_everything(&tester->pair.tally) && met_all_stores(&tester->pair.tally, tester->percent) &&
+          met_all_failed(&tester->pair.tally, tester->percent) &&
           met_all_ranges(&tester->pair.tally, tester->percent) &&
           met_all_of_totals(&tester->pair.tally) && met_all_of_conversions(&tester->pair.tally, tester->percent) &&
           met_all_rules(&tester->pair.tally, tester->percent);
-    printf("%s %s: every refusal, count, store, range, rule and verdict was met\n", met ? "ok" : "FAILED",
+    printf("%s %s: every refusal, count, store, failed swap, range, rule and verdict was met\n", met ? "ok" : "FAILED",
            tester->name);
     return met;
 }

@@ -147,6 +147,21 @@ static void count_store(struct pair *pair, struct second_order order, struct sec
         tally->same_masks[order.mask == 0x00 ? 0 : order.mask == 0xFF ? 1 : 2]++;
 }
 
+/* Whether an order, if it is accepted, is a swap miss that fails. */
+static int is_failed_miss(struct second_order order, struct second_met met)
+{
+    return order.kind == SECOND_SWAP && met.state == 0 && !second_swap_succeeds(order, met.word);
+}
+
+/* Counts an accepted one. In write through an owner's word is stored besides one that gives way. */
+static void count_failed_miss(struct pair *pair, struct second_order order, struct second_met met, int broken)
+{
+    enum second_mode mode = second_mode_in_force(pair->second.shape, order);
+    uint64_t of_owner = mode == SECOND_THROUGH && met.others == SECOND_OTHER_OWNER;
+
+    pair->tally.failed_misses[broken][mode][met.others][pair->expected.writes > of_owner]++;
+}
+
 /* Counts an accepted access to a line by where the line lies to a range. */
 static void count_edge(struct tally *tally, int device, struct second_range range, uint64_t line)
 {
@@ -207,6 +222,8 @@ int history_add(struct history *history, struct pair *pair, uint64_t word, uint6
     struct second_order fields = second_take_apart(word, operand);
     unsigned holders = second_holders(&pair->second, fields.line);
     struct second_met met = met_by(pair, fields);
+    int failed_miss = !history->chosen && is_failed_miss(fields, met);
+    int broken = failed_miss && !history->fresh && !second_audit(&pair->second);
 
     if (history->count < history->room)
         history->orders[history->count] = order;
@@ -226,6 +243,8 @@ int history_add(struct history *history, struct pair *pair, uint64_t word, uint6
         count_store(pair, fields, met, history->fresh);
     if (!history->chosen && pair->expected.refusal == 0)
         count_ranged(pair, fields, history->fresh);
+    if (failed_miss && pair->expected.refusal == 0)
+        count_failed_miss(pair, fields, met, broken);
     return history->count % history->audit_every != 0 || audit(history, pair);
 }
 

@@ -539,7 +539,7 @@ struct listed {
     uint64_t memory[2];
 };
 
-/* Document 01's fourteen orders, as order 4 of document 02 amends orders 12 and 13. */
+/* Document 01's fourteen orders, as orders 4 and 7 of document 02 amend orders 11 to 13. */
 static const struct listed fourteen[] = {
     {0x08, 0, {0, 5, 0, 1, 0}, {10, 0}, 1, {5, 7}},
     {0x18, 0, {0, 5, 0, 1, 0}, {9, 9}, 1, {5, 7}},
@@ -551,9 +551,9 @@ static const struct listed fourteen[] = {
     {UINT64_C(0x0000000900000F1A), 0, {0, 4, 0, 0, 0}, {11, 9}, 0, {9, 7}},
     {0x10101, 0x1FF, {0, 0, 0, 1, 2}, {2, 0}, 1, {4, 255}},
     {0x10013, 0, {0, 0, 0, 0, 0}, {2, 0}, 1, {4, 255}},
-    {UINT64_C(0x000000010001F01A), 0, {0, 255, 0, 1, 0}, {0, 10}, 1, {4, 255}},
-    {0x10019, 0, {0, 0, 0, 0, 0}, {0, 10}, 1, {4, 255}},
-    {UINT64_C(0x000000010001F002), 0, {0, 255, 0, 1, 0}, {2, 0}, 1, {4, 255}},
+    {UINT64_C(0x000000010001F01A), 0, {0, 255, 0, 1, 0}, {9, 9}, 1, {4, 255}},
+    {0x10019, 0, {0, 0, 0, 0, 0}, {9, 11}, 1, {4, 255}},
+    {UINT64_C(0x000000010001F002), 0, {0, 255, 0, 0, 1}, {1, 1}, 1, {4, 255}},
     {0x20, 0, {5, 0, 0, 0, 0}, {0, 0}, 1, {4, 255}},
 };
 
@@ -579,6 +579,22 @@ static const struct listed stores[] = {
     /* Shared: O at who stores, S at the other. */
     {0x18, 0, {0, 5, 0, 0, 0}, {11, 9}, 1, {5, 7}},
     {0x0019, 0, {0, 0, 0, 0, 0}, {9, 11}, 1, {5, 7}},
+};
+
+/* Swaps that fail, and one that doesn't. */
+static const struct listed swaps[] = {
+    /* Nobody has the line, then a port has it clean: both keep a copy. */
+    {UINT64_C(0x0000000600000F0A), 9, {0, 5, 0, 1, 0}, {10, 0}, 1, {5, 7}},
+    {UINT64_C(0x0000000600000F1A), 9, {0, 5, 0, 1, 0}, {9, 9}, 1, {5, 7}},
+    /* A port owns it, and stays its owner in write back; in write through its word is stored, and the line is clean. */
+    {UINT64_C(0x0000000500000F0A), 6, {0, 5, 1, 0, 0}, {11, 9}, 0, {5, 7}},
+    {0x13, 0, {0, 0, 0, 0, 0}, {11, 0}, 0, {5, 7}},
+    {UINT64_C(0x0000000500000F1A), 7, {0, 6, 0, 0, 0}, {11, 9}, 0, {5, 7}},
+    {0x13, 0, {0, 0, 0, 0, 0}, {11, 0}, 0, {5, 7}},
+    {UINT64_C(0x0000000500000F12), 7, {0, 6, 0, 0, 1}, {1, 1}, 1, {6, 7}},
+    /* The port owns line 1, whose word gives way and is stored there. */
+    {0x1FF09, 0x70, {0, 0, 0, 1, 0}, {12, 0}, 0, {6, 7}},
+    {UINT64_C(0x0000000700000F02), 9, {0, 6, 0, 1, 1}, {1, 1}, 1, {6, 0x70}},
 };
 
 /* Carries a list out and holds the struct's answers and looks against it. */
@@ -611,6 +627,7 @@ static void check_lists(void)
 {
     run_list(fourteen, sizeof fourteen / sizeof fourteen[0]);
     run_list(stores, sizeof stores / sizeof stores[0]);
+    run_list(swaps, sizeof swaps / sizeof swaps[0]);
 }
 
 /* Many orders at each shape, under one range after another, and looks between them: every model passes the audit, and

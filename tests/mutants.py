@@ -14,7 +14,7 @@ MISSED = "        word = merge(word, w->operand, w->mask);\n        state = w->m
 WRITE_HIT = "    if (does_write(w, word))\n        write_hit(w, entry, state, word);\n"
 NOT_WRITTEN = "        read_hit(w, entry, state, word);\n"
 INVALIDATED = ("        if (!w->mode)\n            store_line(w, w->line, word);\n        set_all(w, w->holders, INVALID);\n"
-               "    } else if")
+               "    } else {")
 SECOND_CLEAN = "    if (own->status.letter == 'E' && order.mode == SECOND_BACK && !changed) {\n"
 SECOND_SHARED = ("    for (unsigned k = 0; k < holding->count; k++) {\n"
                  "        holding->holders[k].word = merged;\n")
@@ -56,6 +56,20 @@ SECOND_EITHER_BEYOND = "    return ends_beyond(shape.scratch, shape.lines) || en
 SECOND_RANGES = "    return refusal != 0 ? refusal : second_ranges_refusal(shape);\n"
 SECOND_RECORD = "    return record_len == SECOND_RECORD_BYTES ? second_ranges_refusal(shape) : 3;\n"
 SECOND_REFUSED = "    if (answer.refusal != 0)\n        return answer;\n"
+
+# Where a miss doesn't write, a read's or a swap's that fails, in the walking model and in the second model.
+READ_MISS = "        state = read_miss(w, word);\n"
+EVICTED = ("    if (is_owner(evicted)) {\n        uint64_t home = load32(w->tags + 4 * entry) * w->sets + w->index;\n\n"
+           "        store_line(w, home, load64(w->data + 8 * entry));\n    }\n    word = fetch(w);\n")
+FETCHED = "    word = fetch(w);\n    if (does_write(w, word)) {\n"
+MISS = "static inline void miss(struct walk *w, size_t entry)\n{\n"
+SECOND_READ_MISS = ("    else\n        read_miss(model, others, own, order.mode, answer);\n"
+                    "    put_holders_back(model, others);\n")
+SECOND_EVICTED = "    evict(model, entry_of(model, order.port, order.line), answer);\n"
+SECOND_FETCHED = "    if (see_word(order, own->word, answer))\n        write_miss("
+SECOND_MISS = "static void miss(struct second_model *model, struct holding *others, struct second_order order,\n"
+SECOND_STEP = "    struct second_answer answer = {second_order_refusal(model->shape, order), 0, 0, 0, 0};\n"
+OWN_ENTRY = "entry_of(model, order.port, order.line)"
 
 
 def force(condition):
@@ -101,6 +115,18 @@ def second_missed(condition):
             + SECOND_MISSED.replace("'M'", f"{condition} ? 'E' : 'M'"))
 
 
+def failing(condition, code):
+    """A swap miss that fails does something else under a condition, in the walking model."""
+    code = "".join(f"            {line}\n" for line in code.splitlines())
+    return (READ_MISS, f"        if (w->kind == SWAP && ({condition})) {{\n{code}        }} else {{\n    {READ_MISS}        }}\n")
+
+
+def second_failing(condition, code):
+    """The same in the second model."""
+    code = "".join(f"        {line}\n" for line in code.splitlines())
+    return (SECOND_READ_MISS, f"    else if (order.kind == SECOND_SWAP && ({condition})) {{\n{code}    }}\n{SECOND_READ_MISS}")
+
+
 # Slips of such stores that stand in several of the lists below.
 SAME_IS_READ = (WRITE_HIT, WRITE_HIT.replace("word))", "word) && merge(word, w->operand, w->mask) != word)", 1))
 SECOND_SAME_IS_READ = (SECOND_WRITE_HIT, SECOND_WRITE_HIT.replace(
@@ -110,6 +136,203 @@ COPIES_LEFT = (MISSED + INVALIDATED, missed("0") + INVALIDATED.replace(
 SECOND_COPIES_LEFT = (SECOND_MISSED, "    if (second_merge_changes(own->word, order.operand, order.mask))\n    " + SECOND_MISSED)
 
 
+# What a swap miss that fails did before order 7 of document 02: others become I, and the port is alone.
+ALONE_THEN = ("state = w->owners && w->mode ? MODIFIED : exclusive_in(w->mode);\nif (w->owners && !w->mode)\n"
+              "    store_line(w, w->line, word);\nset_all(w, w->holders, INVALID);\n")
+SECOND_ALONE_THEN = ("if (owner != NULL && order.mode == SECOND_THROUGH)\n    store(model, others->line, own->word, answer);\n"
+                     "become(own, owner != NULL && order.mode == SECOND_BACK ? 'M' : 'E', order.mode);\n"
+                     "all_become_invalid(others);\n")
+AS_READ = "state = read_miss(w, word);\n"
+SECOND_AS_READ = "read_miss(model, others, own, order.mode, answer);\n"
+EACH_OTHER = "for (unsigned k = 0; k < others->count; k++)\n    "
+
+
+def then(what, second_what):
+    """A read miss, and something more: for both models."""
+    return AS_READ + what, SECOND_AS_READ + second_what
+
+
+# Slips of swap misses: the name, when it is in either model, and what is done then in either. Of the first ones the flat
+# memory or the audit tells, in histories from fresh.
+TOLD = [(f"a swap miss that fails {name}", *failing(when, what), *second_failing(second_when, second_what))
+        for name, when, second_when, (what, second_what) in (
+    ("takes dirty data and calls it clean", "w->owners && w->mode", "owner != NULL && order.mode == SECOND_BACK",
+     ("state = BACK_E;\nset_all(w, w->holders, INVALID);", "become(own, 'E', SECOND_BACK);\nall_become_invalid(others);")),
+    ("takes dirty data away and leaves S alone", "w->owners && w->mode", "owner != NULL && order.mode == SECOND_BACK",
+     ("state = BACK_S;\nset_all(w, w->holders, INVALID);", "become(own, 'S', SECOND_BACK);\nall_become_invalid(others);")),
+    ("takes E beside other copies", "w->holders", "others->count > 0",
+     then("state = exclusive_in(w->mode);", "become(own, 'E', order.mode);")),
+    ("takes E beside clean copies", "w->holders && !w->owners", "others->count > 0 && owner == NULL",
+     then("state = exclusive_in(w->mode);", "become(own, 'E', order.mode);")),
+    ("takes M beside an owner", "w->owners && w->mode", "owner != NULL && order.mode == SECOND_BACK",
+     then("state = MODIFIED;", "become(own, 'M', SECOND_BACK);")),
+    ("takes O beside an owner", "w->owners && w->mode", "owner != NULL && order.mode == SECOND_BACK",
+     then("state = OWNED;", "become(own, 'O', SECOND_BACK);")),
+    ("leaves no owner in write back", "w->owners && w->mode", "owner != NULL && order.mode == SECOND_BACK",
+     ("state = BACK_S;\nset_all(w, w->holders, BACK_S);",
+      "become(own, 'S', SECOND_BACK);\n" + EACH_OTHER + "become(&others->holders[k], 'S', SECOND_BACK);")),
+    ("leaves M at the owner", "w->owners && w->mode", "owner != NULL && order.mode == SECOND_BACK",
+     ("state = BACK_S;\nset_all(w, w->holders & ~w->owners, BACK_S);",
+      "become(own, 'S', SECOND_BACK);\n" + EACH_OTHER
+      + "if (!owns(&others->holders[k]))\n        become(&others->holders[k], 'S', SECOND_BACK);")),
+    ("leaves E at another port", "w->holders && !w->owners", "others->count > 0 && owner == NULL",
+     ("state = shared_in(w->mode);\nfor (unsigned p = 0; p < w->ports; p++)\n"
+      "    if (w->holders >> p & 1 && !is_e(w->states[entry_of(w, p)]))\n"
+      "        w->states[entry_of(w, p)] = (uint8_t)shared_in(w->mode);",
+      "become(own, 'S', order.mode);\n" + EACH_OTHER
+      + "if (others->holders[k].status.letter != 'E')\n        become(&others->holders[k], 'S', order.mode);")),
+    ("leaves the mode of the other copies", "w->holders && !w->owners", "others->count > 0 && owner == NULL",
+     ("state = shared_in(w->mode);\nfor (unsigned p = 0; p < w->ports; p++)\n    if (w->holders >> p & 1)\n"
+      "        w->states[entry_of(w, p)] = (uint8_t)shared_in((unsigned)is_back(w->states[entry_of(w, p)]));",
+      "become(own, 'S', order.mode);\n" + EACH_OTHER
+      + "become(&others->holders[k], 'S', others->holders[k].status.mode);")),
+    ("leaves the other holders as they were", "w->holders", "others->count > 0",
+     ("state = shared_in(w->mode);\nif (w->owners && !w->mode)\n    store_line(w, w->line, word);",
+      "become(own, 'S', order.mode);\nif (owner != NULL && order.mode == SECOND_THROUGH)\n"
+      "    store(model, others->line, own->word, answer);")),
+    ("doesn't store the owner's word in write through", "w->owners && !w->mode",
+     "owner != NULL && order.mode == SECOND_THROUGH",
+     ("state = THROUGH_S;\nset_all(w, w->holders, THROUGH_S);",
+      "become(own, 'S', SECOND_THROUGH);\n" + EACH_OTHER + "become(&others->holders[k], 'S', SECOND_THROUGH);")),
+    ("stores the owner's word at the line that gives way", "w->owners && !w->mode && is_owner(evicted)",
+     "owner != NULL && order.mode == SECOND_THROUGH && answer->writes > 0",
+     ("state = THROUGH_S;\nset_all(w, w->holders, THROUGH_S);\n"
+      "store_line(w, load32(w->tags + 4 * entry) * w->sets + w->index, word);",
+      "become(own, 'S', SECOND_THROUGH);\n" + EACH_OTHER + "become(&others->holders[k], 'S', SECOND_THROUGH);\n"
+      f"store(model, home_of(model, {OWN_ENTRY}), own->word, answer);")),
+    ("answers that it swapped", "1", "1", then("w->swapped = 1;", "answer->swapped = 1;")),
+    ("gives no value", "1", "1", then("w->value = 0;", "answer->value = 0;")),
+    ("gives memory's word", "w->owners", "owner != NULL",
+     ("w->value = load64(w->memory + 8 * (size_t)w->line);\n" + AS_READ,
+      "answer->value = model->memory[order.line];\n" + SECOND_AS_READ)),
+    ("merges its operand into its copy", "1", "1",
+     then("word = merge(word, w->operand, w->mask);", "own->word = second_merge(own->word, order.operand, order.mask);")),
+    ("merges its operand into what it stores", "w->owners && !w->mode", "owner != NULL && order.mode == SECOND_THROUGH",
+     ("word = merge(word, w->operand, w->mask);\n" + AS_READ,
+      "own->word = second_merge(own->word, order.operand, order.mask);\n" + SECOND_AS_READ)),
+    ("does nothing but answer", "1", "1", ("return;", "return;")),
+)] + [
+    ("a swap miss that fails forgets the word that gives way",
+     EVICTED, EVICTED.replace("    word = fetch(w);\n", "").replace(
+         "    if (is_owner(evicted)) {", "    word = fetch(w);\n    if (is_owner(evicted) && (does_write(w, word) || w->kind == READ)) {"),
+     [SECOND_EVICTED, SECOND_FETCHED],
+     ["", "    if (see_word(order, own->word, answer) || order.kind == SECOND_READ)\n    " + SECOND_EVICTED + SECOND_FETCHED]),
+    ("a swap miss compares memory's word although there is an owner",
+     FETCHED, "    word = fetch(w);\n"
+     "    int writes = does_write(w, w->kind == SWAP ? load64(w->memory + 8 * (size_t)w->line) : word);\n\n"
+     "    if (w->kind == SWAP)\n        w->value = word;\n    if (writes) {\n",
+     SECOND_FETCHED,
+     "    int writes = see_word(order, order.kind == SECOND_SWAP ? model->memory[order.line] : own->word, answer);\n\n"
+     "    if (order.kind == SECOND_SWAP)\n        answer->value = own->word;\n    if (writes)\n        write_miss("),
+    ("a swap miss that succeeds leaves the copies as they were",
+     INVALIDATED, INVALIDATED.replace("        set_all", "        if (w->kind != SWAP)\n            set_all"),
+     SECOND_MISSED, "    if (order.kind != SECOND_SWAP)\n    " + SECOND_MISSED),
+    ("a swap miss that succeeds leaves the copies in S",
+     INVALIDATED, INVALIDATED.replace("INVALID)", "w->kind == SWAP ? shared_in(w->mode) : INVALID)"),
+     SECOND_MISSED,
+     SECOND_MISSED.replace("    all_become_invalid(others);\n",
+                           "    all_become_invalid(others);\n    for (unsigned k = 0; k < others->count && order.kind == SECOND_SWAP; k++)\n"
+                           "        become(&others->holders[k], 'S', order.mode);\n")),
+    ("a swap of another mask is a read",
+     "    if (w->kind == SWAP && w->mask != 0x0F && w->mask != 0xF0)\n        return 7;",
+     "    if (w->kind == SWAP && w->mask != 0x0F && w->mask != 0xF0)\n        w->kind = READ;",
+     SECOND_STEP,
+     "    if (order.kind == SECOND_SWAP && order.mask != 0x0F && order.mask != 0xF0)\n        order.kind = SECOND_READ;\n"
+     + SECOND_STEP),
+]
+
+# Of these they can't tell, or seldom: what is worked out by hand does, and a read beside the swap.
+QUIET = [(f"a swap miss that fails {name}", *failing(when, what), *second_failing(second_when, second_what))
+         for name, when, second_when, (what, second_what) in (
+    *((f"chases the copies away{where}", when, second_when, (ALONE_THEN, SECOND_ALONE_THEN))
+      for where, when, second_when in (
+          ("", "1", "1"),
+          (" in write back", "w->mode", "order.mode == SECOND_BACK"),
+          (" in write through", "!w->mode", "order.mode == SECOND_THROUGH"),
+          (" where a port owns the line", "w->owners", "owner != NULL"),
+          (" where the word is memory's", "!w->owners", "owner == NULL"),
+          (" under the upper mask", "w->mask == 0xF0", "order.mask == 0xF0"),
+          (" under the lower mask", "w->mask == 0x0F", "order.mask == 0x0F"),
+          (" where several ports have the line", "w->holders & (w->holders - 1)", "others->count > 1"),
+          (" where one port has the line", "!(w->holders & (w->holders - 1))", "others->count <= 1"),
+          (" where a word gives way", "is_owner(evicted)", "answer->writes > 0"),
+          (" where none gives way", "!is_owner(evicted)", "answer->writes == 0"))),
+    ("doesn't store the owner's word where a word gives way", "w->owners && !w->mode && is_owner(evicted)",
+     "owner != NULL && order.mode == SECOND_THROUGH && answer->writes > 0",
+     ("state = THROUGH_S;\nset_all(w, w->holders, THROUGH_S);",
+      "become(own, 'S', SECOND_THROUGH);\n" + EACH_OTHER + "become(&others->holders[k], 'S', SECOND_THROUGH);")),
+    ("takes clean copies away and is S", "!w->owners", "owner == NULL",
+     then("set_all(w, w->holders, INVALID);", "all_become_invalid(others);")),
+    ("takes the ownership over", "w->owners && w->mode", "owner != NULL && order.mode == SECOND_BACK",
+     ("state = OWNED;\nset_all(w, w->holders, BACK_S);",
+      "become(own, 'O', SECOND_BACK);\n" + EACH_OTHER + "become(&others->holders[k], 'S', SECOND_BACK);")),
+    ("stores the owner's word in write back", "w->owners && w->mode", "owner != NULL && order.mode == SECOND_BACK",
+     then("store_line(w, w->line, word);", "store(model, others->line, own->word, answer);")),
+    ("stores memory's own word in write through", "!w->owners && !w->mode", "owner == NULL && order.mode == SECOND_THROUGH",
+     then("store_line(w, w->line, word);", "store(model, others->line, own->word, answer);")),
+    ("counts its store twice", "w->owners && !w->mode", "owner != NULL && order.mode == SECOND_THROUGH",
+     then("w->writes++;", "answer->writes++;")),
+    ("counts no store", "w->owners && !w->mode", "owner != NULL && order.mode == SECOND_THROUGH",
+     then("w->writes--;", "answer->writes--;")),
+    ("doesn't count the word that gives way", "is_owner(evicted)", "answer->writes > 0",
+     ("w->writes--;\n" + AS_READ, "answer->writes--;\n" + SECOND_AS_READ)),
+    ("stores a clean word that gives way", "evicted && !is_owner(evicted)",
+     f"model->states[{OWN_ENTRY}] != 0 && model->states[{OWN_ENTRY}] < 11",
+     then("store_line(w, load32(w->tags + 4 * entry) * w->sets + w->index, load64(w->data + 8 * entry));",
+          f"store(model, home_of(model, {OWN_ENTRY}), model->data[{OWN_ENTRY}], answer);")),
+    ("counts a read although an owner gives the word", "w->owners", "owner != NULL",
+     then("w->reads = 1;", "answer->reads = 1;")),
+    ("counts no read", "1", "1", then("w->reads = 0;", "answer->reads = 0;")),
+    ("counts no read beside a clean copy", "w->holders", "others->count > 0", then("w->reads = 0;", "answer->reads = 0;")),
+    ("brings nothing in", "1", "1",
+     ("read_miss(w, word);\nw->states[entry] = INVALID;\nreturn;", SECOND_AS_READ + "become(own, 'I', SECOND_THROUGH);")),
+    ("takes the highest-numbered owner's word", "w->owners", "owner != NULL",
+     ("word = w->value = load64(w->data + 8 * entry_of(w, 31u - (unsigned)__builtin_clz(w->owners)));\n" + AS_READ,
+      EACH_OTHER + "if (owns(&others->holders[k]))\n        answer->value = own->word = others->holders[k].word;\n"
+      + SECOND_AS_READ)),
+    ("takes a clean holder's word", "w->holders && !w->owners", "others->count > 0 && owner == NULL",
+     ("word = w->value = load64(w->data + 8 * entry_of(w, (unsigned)__builtin_ctz(w->holders)));\n" + AS_READ,
+      "answer->value = own->word = others->holders[0].word;\n" + SECOND_AS_READ)),
+)] + [
+    ("a swap miss that fails passes the ranges over",
+     [MISS, IN_FORCE, READ_MISS],
+     ["static unsigned said;\n\n" + MISS, "    said = w->mode;\n" + IN_FORCE,
+      "        w->mode = w->kind == SWAP ? said : w->mode;\n" + READ_MISS],
+     [SECOND_MISS, SECOND_IN_FORCE, SECOND_READ_MISS],
+     ["static enum second_mode said;\n\n" + SECOND_MISS, "    said = order.mode;\n" + SECOND_IN_FORCE,
+      SECOND_READ_MISS.replace("order.mode", "order.kind == SECOND_SWAP ? said : order.mode")]),
+    ("a swap hit that fails counts a read",
+     NOT_WRITTEN, "    {\n" + NOT_WRITTEN + "        w->reads = w->kind == SWAP;\n    }\n",
+     SECOND_NOT_WRITTEN, SECOND_NOT_WRITTEN.replace(
+         "    put", "    answer->reads = order.kind == SECOND_SWAP && !answer->swapped;\n    put")),
+    ("a swap hit that fails takes the other copies away",
+     NOT_WRITTEN, "    {\n" + NOT_WRITTEN + "        if (w->kind == SWAP)\n"
+     "            set_all(w, w->holders & ~(1u << w->port), INVALID);\n    }\n",
+     SECOND_NOT_WRITTEN, SECOND_NOT_WRITTEN.replace(
+         "    put", "    for (unsigned k = 0; k < holding->count && order.kind == SECOND_SWAP && !answer->swapped; k++)\n"
+         "        if (&holding->holders[k] != own)\n            become(&holding->holders[k], 'I', SECOND_THROUGH);\n    put")),
+    ("a swap hit that fails turns no mode",
+     NOT_WRITTEN, "    if (w->kind == READ)\n    " + NOT_WRITTEN,
+     SECOND_NOT_WRITTEN, "        if (order.kind == SECOND_READ)\n    " + SECOND_NOT_WRITTEN),
+]
+
+# A swap miss that succeeds and hands its word on to the copies, which neither flat memory nor audit mind.
+HANDED_ON = (INVALIDATED, INVALIDATED.replace(
+    "        set_all(w, w->holders, INVALID);\n",
+    "        if (w->kind == SWAP && w->holders) {\n            state = w->mode ? OWNED : THROUGH_S;\n"
+    "            for (unsigned p = 0; p < w->ports; p++)\n                if (w->holders >> p & 1)\n"
+    "                    store64(w->data + 8 * entry_of(w, p), word);\n"
+    "            set_all(w, w->holders, shared_in(w->mode));\n        } else {\n"
+    "            set_all(w, w->holders, INVALID);\n        }\n"))
+SECOND_HANDED_ON = (SECOND_MISSED, (
+    "    if (order.kind == SECOND_SWAP && others->count > 0) {\n"
+    "        own->word = second_merge(own->word, order.operand, order.mask);\n"
+    "        for (unsigned k = 0; k < others->count; k++) {\n            others->holders[k].word = own->word;\n"
+    "            become(&others->holders[k], 'S', order.mode);\n        }\n"
+    "        if (order.mode == SECOND_THROUGH)\n            store(model, others->line, own->word, answer);\n"
+    "        become(own, order.mode == SECOND_BACK ? 'O' : 'S', order.mode);\n        return;\n    }\n") + SECOND_MISSED)
+
+
 # Name, the text to find (it must occur exactly once), the text in its place.
 WALKING = [
     # Slips that document 01 names.
@@ -117,8 +340,7 @@ WALKING = [
      "if (is_owner(evicted)) {",
      "if (evicted == MODIFIED) {"),
     ("a failed swap calls dirty data clean",
-     "state = w->owners && w->mode ? MODIFIED : exclusive_in(w->mode);",
-     "state = exclusive_in(w->mode);"),
+     *failing("w->owners && w->mode", "state = BACK_E;\nset_all(w, w->holders, INVALID);")),
     ("a read turns one shared copy only",
      "    set_all(w, w->holders, shared_in(w->mode));\n}",
      "    w->states[entry] = (uint8_t)shared_in(w->mode);\n}"),
@@ -130,11 +352,9 @@ WALKING = [
      "if (is_owner(evicted)) {",
      "if (is_back(evicted)) {"),
     ("a failed swap through doesn't store the owner's word",
-     "        if (w->owners && !w->mode)\n            store_line(w, w->line, word);\n        set_all",
-     "        set_all"),
-    ("a failed swap leaves the other holders",
-     "            store_line(w, w->line, word);\n        set_all(w, w->holders, INVALID);\n    }\n    store32",
-     "            store_line(w, w->line, word);\n    }\n    store32"),
+     *failing("w->owners && !w->mode", "state = THROUGH_S;\nset_all(w, w->holders, THROUGH_S);")),
+    ("a failed swap leaves the other holders as they were",
+     *failing("w->holders", "state = shared_in(w->mode);\nif (w->owners && !w->mode)\n    store_line(w, w->line, word);")),
     ("a read hit through doesn't store an owned word",
      "    if (!w->mode && w->owners)\n        store_line(w, w->line, word);\n    set_all(w, w->holders, shared",
      "    set_all(w, w->holders, shared"),
@@ -184,14 +404,14 @@ WALKING = [
      "    return w->holders ? shared_in(w->mode) : exclusive_in(w->mode);",
      "    return w->owners ? shared_in(w->mode) : exclusive_in(w->mode);"),
     ("a write miss leaves the other holders",
-     "            store_line(w, w->line, word);\n        set_all(w, w->holders, INVALID);\n    } else if",
-     "            store_line(w, w->line, word);\n    } else if"),
+     "            store_line(w, w->line, word);\n        set_all(w, w->holders, INVALID);\n    } else {",
+     "            store_line(w, w->line, word);\n    } else {"),
     ("a write miss stores the owner's word first",
      "        word = merge(word, w->operand, w->mask);\n        state",
      "        if (w->owners)\n            store_line(w, w->line, word);\n        word = merge(word, w->operand, w->mask);\n        state"),
     ("a write miss through doesn't store",
-     "        if (!w->mode)\n            store_line(w, w->line, word);\n        set_all(w, w->holders, INVALID);\n    } else if",
-     "        set_all(w, w->holders, INVALID);\n    } else if"),
+     "        if (!w->mode)\n            store_line(w, w->line, word);\n        set_all(w, w->holders, INVALID);\n    } else {",
+     "        set_all(w, w->holders, INVALID);\n    } else {"),
     ("the highest-numbered owner answers",
      "(unsigned)__builtin_ctz(w->owners)",
      "31u - (unsigned)__builtin_clz(w->owners)"),
@@ -487,8 +707,8 @@ WALKING = [
      NOT_WRITTEN, "    if (!(w->kind == SWAP && state == THROUGH_E && merge(word, w->operand, w->mask) == word))\n    "
      + NOT_WRITTEN),
     ("a failed swap that would store what an owner has leaves E",
-     "state = w->owners && w->mode ? MODIFIED",
-     "state = w->owners && w->mode && merge(word, w->operand, w->mask) != word ? MODIFIED"),
+     *failing("w->owners && w->mode && merge(word, w->operand, w->mask) == word",
+              "state = BACK_E;\nset_all(w, w->holders, INVALID);")),
     # Beside these.
     ("a device write of the same leaves the copies",
      "    store_line(w, w->line, merge(fetch(w), w->operand, w->mask));\n    set_all",
@@ -851,6 +1071,9 @@ def unless(condition):
     return FULL.replace("is_full(record)", f"is_full(record) && {condition}")
 
 
+# Of swap misses that fail: the groups of random swaps, and those after them, catch these.
+SWAPPED = [slip[:3] for slip in TOLD + QUIET] + [("a swap miss that succeeds hands its word on", *HANDED_ON)]
+
 TOTALS = [
     # Refusal 9 and what comes before it.
     ("9 is given after 2", FULL, unless(f"{SLICES} != 2")),
@@ -911,6 +1134,16 @@ TOTALS = [
     ("a flush's memory write is not counted", WRITES, "    if ((word & 7) != FLUSH)\n    " + WRITES),
     ("a swap that fails is not counted under its kind",
      ACCEPTED, "    if ((word & 7) != SWAP || load64(answer + 16))\n    " + ACCEPTED),
+    ("a swap that fails is counted as a read",
+     ACCEPTED, "    add_to(record, (word & 7) == SWAP && !load64(answer + 16) ? READ : word & 7, 1);\n"),
+    ("a swap that fails is counted as a read too",
+     ACCEPTED, ACCEPTED + "    add_to(record, READ, (word & 7) == SWAP && !load64(answer + 16));\n"),
+    ("a swap that reads memory and fails is counted as a read",
+     ACCEPTED, "    add_to(record, (word & 7) == SWAP && !load64(answer + 16) && load64(answer + 24) ? READ : word & 7, 1);\n"),
+    ("the memory read of a swap that fails is not counted",
+     READS, "    if ((word & 7) != SWAP || load64(answer + 16))\n    " + READS),
+    ("the memory writes of a swap that fails are not counted",
+     WRITES, "    if ((word & 7) != SWAP || load64(answer + 16))\n    " + WRITES),
     ("a write of no bytes is not counted",
      ACCEPTED, "    if ((word & 7) != WRITE || (word >> 8 & 255))\n    " + ACCEPTED),
     ("accepted orders are not counted", ACCEPTED, ""),
@@ -1001,11 +1234,6 @@ BOTH = [
      "if (evicted == MODIFIED) {",
      "    if (owns(&evicted))",
      "    if (evicted.status.letter == 'M')"),
-    ("a failed swap calls dirty data clean",
-     "state = w->owners && w->mode ? MODIFIED : exclusive_in(w->mode);",
-     "state = exclusive_in(w->mode);",
-     "    if (from_owner && mode == SECOND_BACK) {\n        become(own, 'M', SECOND_BACK);",
-     "    if (from_owner && mode == SECOND_BACK) {\n        become(own, 'E', SECOND_BACK);"),
     ("a read turns one shared copy only",
      "    set_all(w, w->holders, shared_in(w->mode));\n}",
      "    w->states[entry] = (uint8_t)shared_in(w->mode);\n}",
@@ -1017,8 +1245,8 @@ BOTH = [
      "        holding->holders[k].word = merged;\n",
      "        own->word = merged;\n"),
     ("a write miss leaves the other holders",
-     "            store_line(w, w->line, word);\n        set_all(w, w->holders, INVALID);\n    } else if",
-     "            store_line(w, w->line, word);\n    } else if",
+     "            store_line(w, w->line, word);\n        set_all(w, w->holders, INVALID);\n    } else {",
+     "            store_line(w, w->line, word);\n    } else {",
      "    all_become_invalid(others);\n    own->word = second_merge",
      "    own->word = second_merge"),
     ("memory answers although there is an owner",
@@ -1202,6 +1430,8 @@ BOTH = [
      "    if (order.kind == SECOND_DEVICE_READ) {",
      "    if (order.kind == SECOND_DEVICE_WRITE && order.mask != 0x0F && order.mask != 0xF0) {\n"
      "        answer.refusal = 7;\n        return answer;\n    }\n    if (order.kind == SECOND_DEVICE_READ) {"),
+    # Swap misses that fail, and some that do too much.
+    *TOLD,
 ]
 
 # The same slip in both models where the flat memory and the audit can't tell: the device writes worked out by hand can.
@@ -1379,6 +1609,7 @@ SAME = [
      "    if (merge(found, w->operand, w->mask) != found)\n        set_all",
      "    all_become_invalid(holding);\n",
      "    if (second_merge_changes(word, order.operand, order.mask))\n        all_become_invalid(holding);\n"),
+    ("a swap miss that succeeds hands its word on", *HANDED_ON, *SECOND_HANDED_ON),
 ]
 
 # The same slip of ranges in both models where the flat memory and the audit can't tell, or are refused too: the orders and
@@ -1640,6 +1871,15 @@ COUNTED = [
     ("a failed swap is counted as one that succeeded",
      SWAPS, "    add_to(record, SWAPS, (word & 7) == SWAP);\n",
      "return answer.swapped;\n", "return answer.refusal == 0 && second_take_apart(word, 0).kind == SECOND_SWAP;\n"),
+    ("a swap that fails is counted as a read",
+     ACCEPTED, "    add_to(record, (word & 7) == SWAP && !load64(answer + 16) ? READ : word & 7, 1);\n",
+     SECOND_ACCEPTED, SECOND_ACCEPTED.replace("(word, 0).kind", "((word & 7) == 2 && !answer.swapped ? 0 : word, 0).kind")),
+    ("the memory read of a swap that fails is not counted",
+     READS, "    if ((word & 7) != SWAP || load64(answer + 16))\n    " + READS,
+     "return answer.reads;\n", "return (word & 7) == 2 && !answer.swapped ? 0 : answer.reads;\n"),
+    ("the memory writes of a swap that fails are not counted",
+     WRITES, "    if ((word & 7) != SWAP || load64(answer + 16))\n    " + WRITES,
+     "return answer.writes;\n", "return (word & 7) == 2 && !answer.swapped ? 0 : answer.writes;\n"),
     ("memory reads and writes change places",
      READS + WRITES, READS.replace("24", "32") + WRITES.replace("32", "24"),
      "return answer.reads;\n    case SECOND_TOTAL_WRITES: return answer.writes;\n",
@@ -2492,8 +2732,8 @@ def edit(name, source, old, new):
 
 
 def main():
-    """mutants.py walking|ranges|totals|edition|rules|trace|rows|flat|marks|header SOURCE FOLDER, or two with the same
-    slip: both|listed|same|counted|ranged WALKING SECOND FOLDER, or letters PLAIN SECOND FOLDER.
+    """mutants.py walking|ranges|swaps|totals|edition|rules|trace|rows|flat|marks|header SOURCE FOLDER, or two with the
+    same slip: both|listed|same|failed|counted|ranged WALKING SECOND FOLDER, or letters PLAIN SECOND FOLDER.
 
     Prints number and name of each. A header keeps its name, in a folder that has the number.
     """
@@ -2503,7 +2743,7 @@ def main():
     folder.mkdir(parents=True, exist_ok=True)
     lists = {"walking": WALKING, "totals": TOTALS, "trace": TRACE, "rows": ROWS, "both": BOTH, "listed": LISTED,
              "same": SAME, "flat": FLAT, "counted": COUNTED, "edition": EDITION, "letters": LETTERS, "rules": RULES,
-             "ranges": RANGES, "ranged": RANGED, "marks": MARKS, "header": HEADER}
+             "ranges": RANGES, "ranged": RANGED, "marks": MARKS, "header": HEADER, "swaps": SWAPPED, "failed": QUIET}
     for number, (name, *edits) in enumerate(lists[which], 1):
         for place, text in enumerate(texts):
             old, new = edits[2 * place:2 * place + 2]

@@ -56,6 +56,9 @@ struct tally {
     uint64_t stores[2][TALLY_STATES][SECOND_OTHERS][2][2][2]; /* from fresh, own state, others, mode, swap, changed */
     uint64_t same_masks[3];    /* of those that stored the same: 0x00, 0xFF, any other */
     uint64_t same_refused[REFUSALS]; /* refused orders that would have stored the same, by refusal */
+    /* In histories: swap misses that fail, by whether the tables fail the audit, mode in force, what the other ports
+       have of the line, and whether a word of another line gives way. */
+    uint64_t failed_misses[2][2][SECOND_OTHERS][2];
     /* In steps with a record. */
     uint64_t totals_refusals[REFUSALS];
     uint64_t totals_kinds[SECOND_KINDS];

@@ -311,7 +311,8 @@ static void evict(struct second_model *model, unsigned entry, struct second_answ
         store(model, home_of(model, entry), evicted.word, answer);
 }
 
-/* The read's sentence. own has the word already. */
+/* The read's sentence, and order 7 of document 02: "A swap miss that fails now does exactly what a read miss in the
+   same mode does." own has the word already. */
 static void read_miss(struct second_model *model, struct holding *others, struct holder *own, enum second_mode mode,
                       struct second_answer *answer)
 {
@@ -344,24 +345,6 @@ static void write_miss(struct second_model *model, struct holding *others, struc
     } else {
         store(model, others->line, own->word, answer);
         become(own, 'E', SECOND_THROUGH);
-    }
-}
-
-/* "Swap that fails: others become I. Word from an owner: M, or with m = 0 store it and become write-through E. Word
-   from memory: E m." */
-static void failed_swap_miss(struct second_model *model, struct holding *others, struct holder *own,
-                             enum second_mode mode, struct second_answer *answer)
-{
-    int from_owner = lowest_owner(others) != NULL;
-
-    all_become_invalid(others);
-    if (from_owner && mode == SECOND_BACK) {
-        become(own, 'M', SECOND_BACK);
-    } else if (from_owner) {
-        store(model, others->line, own->word, answer);
-        become(own, 'E', SECOND_THROUGH);
-    } else {
-        become(own, 'E', mode);
     }
 }
 
@@ -406,10 +389,8 @@ static void miss(struct second_model *model, struct holding *others, struct seco
     }
     if (see_word(order, own->word, answer))
         write_miss(model, others, own, order, answer);
-    else if (order.kind == SECOND_READ)
-        read_miss(model, others, own, order.mode, answer);
     else
-        failed_swap_miss(model, others, own, order.mode, answer);
+        read_miss(model, others, own, order.mode, answer);
     put_holders_back(model, others);
     /* "Then i's tag is a's and its data that word." */
     put_holders_back(model, &alone);

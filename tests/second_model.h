@@ -1,4 +1,4 @@
-/* The second model: documents 01 and 02 (orders 1, 2, 4, 6) in plain C, a line and its holders at a time, own arrays. */
+/* The second model: documents 01 and 02 (orders 1, 2, 4, 6, 7) in plain C, a line and its holders at a time. */
 
 #ifndef SECOND_MODEL_H
 #define SECOND_MODEL_H

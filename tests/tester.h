@@ -47,6 +47,21 @@ int add_to_start(struct tester *tester, uint64_t word, uint64_t operand);
 /* Two ports, one set, two lines, memory 5 and 7: begins a history from fresh; 1 if all is as expected. */
 int begin_at_five_and_seven(struct tester *tester);
 
+/* An order from that start and what it leaves, worked out by hand. */
+struct worked_out {
+    uint64_t word, operand;
+    struct second_answer answer;
+    struct entry entries[2]; /* of ports 0 and 1, after the order */
+    uint64_t memory[2];
+    unsigned marks[2]; /* of the flat memory */
+};
+
+/* Carries such orders out, one after another, with the audit, which says yes; 1 if all is as worked out. */
+int worked_out_orders(struct tester *tester, const struct worked_out *orders, size_t count);
+
+/* Whether the audit of the lent tables says so. */
+int verdict_is(struct tester *tester, unsigned verdict);
+
 /* Chooses a run's traffic on a shape, and fills main memory of history.start. */
 void begin_traffic(struct tester *tester, struct second_shape shape);
 
@@ -86,6 +101,15 @@ int ranges_refused(struct tester *tester, uint64_t run);
 int ranges_device(struct tester *tester, uint64_t run);
 int ranges_change(struct tester *tester, uint64_t run);
 int ranges_empty(struct tester *tester, uint64_t run);
+
+/* The groups on swaps that fail: numbers worked out by hand (run 0 to 2), as reads, as reads that are counted, in
+   fights for locks, and before other orders on the same line. */
+enum { SWAPS_PARTS = 3 };
+int swaps_numbers(struct tester *tester, uint64_t run);
+int swaps_are_reads(struct tester *tester, uint64_t run);
+int swaps_are_counted(struct tester *tester, uint64_t run);
+int swaps_for_locks(struct tester *tester, uint64_t run);
+int swaps_before_others(struct tester *tester, uint64_t run);
 
 /* The groups on totals: numbers worked out by hand (run 0 to 2), sums over histories, any records, other lengths. */
 int totals_numbers(struct tester *tester, uint64_t run);

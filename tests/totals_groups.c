@@ -45,7 +45,7 @@ struct totals_literal {
 
 /* From fresh on memory 5 and 7, with one record from zeros. */
 static const struct totals_literal totals_list[] = {
-    /* Document 01's fourteen orders, as order 4 of document 02 amends them. */
+    /* Document 01's fourteen orders, as orders 4 and 7 of document 02 amend them. */
     {0x0000000000000008, 0, {1, 0, 0, 0, 0, 0, 0, 1, 0, 0}},
     {0x0000000000000018, 0, {2, 0, 0, 0, 0, 0, 0, 2, 0, 0}},
     {0x000000000000FF19, 9, {2, 1, 0, 0, 0, 0, 0, 2, 0, 0}},
@@ -58,26 +58,35 @@ static const struct totals_literal totals_list[] = {
     {0x0000000000010013, 0, {3, 2, 2, 1, 2, 0, 0, 5, 3, 1}},
     {0x000000010001F01A, 0, {3, 2, 3, 1, 2, 0, 0, 6, 3, 1}},
     {0x0000000000010019, 0, {3, 3, 3, 1, 2, 0, 0, 6, 3, 1}},
-    {0x000000010001F002, 0, {3, 3, 4, 1, 2, 0, 0, 7, 3, 1}},
-    {0x0000000000000020, 0, {3, 3, 4, 1, 2, 0, 1, 7, 3, 1}},
-    /* A device writes a line that nobody holds; kind 6 is refused; it writes one that port 0 holds in E. */
-    {0xFF05, 6, {3, 3, 4, 1, 2, 1, 1, 8, 4, 1}},
-    {0xFF06, 6, {3, 3, 4, 1, 2, 1, 2, 8, 4, 1}},
-    {0x10105, 0xAA, {3, 3, 4, 1, 2, 2, 2, 9, 5, 1}},
+    {0x000000010001F002, 0, {3, 3, 4, 1, 2, 0, 0, 6, 4, 1}},
+    {0x0000000000000020, 0, {3, 3, 4, 1, 2, 0, 1, 6, 4, 1}},
+    /* A device writes a line that nobody holds; kind 6 is refused; it writes one that both ports hold in S. */
+    {0xFF05, 6, {3, 3, 4, 1, 2, 1, 1, 7, 5, 1}},
+    {0xFF06, 6, {3, 3, 4, 1, 2, 1, 2, 7, 5, 1}},
+    {0x10105, 0xAA, {3, 3, 4, 1, 2, 2, 2, 8, 6, 1}},
     /* Port 0 writes that line, and the device takes the owner's word; port 0 writes it again. */
-    {0x1FF09, 0x33, {3, 4, 4, 1, 2, 2, 2, 10, 5, 1}},
-    {0x10005, 0, {3, 4, 4, 1, 2, 3, 2, 10, 6, 1}},
-    {0x1FF09, 0x44, {3, 5, 4, 1, 2, 3, 2, 11, 6, 1}},
+    {0x1FF09, 0x33, {3, 4, 4, 1, 2, 2, 2, 9, 6, 1}},
+    {0x10005, 0, {3, 4, 4, 1, 2, 3, 2, 9, 7, 1}},
+    {0x1FF09, 0x44, {3, 5, 4, 1, 2, 3, 2, 10, 7, 1}},
     /* A swap through that evicts it and succeeds, with one read and two writes; then flushes of E and of M. */
-    {0x0000000600000F02, 8, {3, 5, 5, 1, 2, 3, 2, 12, 8, 2}},
-    {0x03, 0, {3, 5, 5, 2, 2, 3, 2, 12, 8, 2}},
-    {0xFF19, 1, {3, 6, 5, 2, 2, 3, 2, 13, 8, 2}},
-    {0x13, 0, {3, 6, 5, 3, 2, 3, 2, 13, 9, 2}},
+    {0x0000000600000F02, 8, {3, 5, 5, 1, 2, 3, 2, 11, 9, 2}},
+    {0x03, 0, {3, 5, 5, 2, 2, 3, 2, 11, 9, 2}},
+    {0xFF19, 1, {3, 6, 5, 2, 2, 3, 2, 12, 9, 2}},
+    {0x13, 0, {3, 6, 5, 3, 2, 3, 2, 12, 10, 2}},
     /* A wrong mask, a wrong line and kind 7 are refused; a swap of an upper half succeeds. */
-    {0xFF02, 0, {3, 6, 5, 3, 2, 3, 3, 13, 9, 2}},
-    {0x20004, 0, {3, 6, 5, 3, 2, 3, 4, 13, 9, 2}},
-    {0xFFFFFFFFFFFFFFFF, 0, {3, 6, 5, 3, 2, 3, 5, 13, 9, 2}},
-    {0x000000000001F012, 0, {3, 6, 6, 3, 2, 3, 5, 14, 10, 3}},
+    {0xFF02, 0, {3, 6, 5, 3, 2, 3, 3, 12, 10, 2}},
+    {0x20004, 0, {3, 6, 5, 3, 2, 3, 4, 12, 10, 2}},
+    {0xFFFFFFFFFFFFFFFF, 0, {3, 6, 5, 3, 2, 3, 5, 12, 10, 2}},
+    {0x000000000001F012, 0, {3, 6, 6, 3, 2, 3, 5, 13, 11, 3}},
+    /* Swaps that fail are counted as swaps, with the reads and writes of a read: one from memory beside a copy, one
+       that stores an owner's word, and one that stores the word that gives way too. */
+    {0x0000000100010F0A, 9, {3, 6, 7, 3, 2, 3, 5, 14, 11, 3}},
+    {0x1FF19, 5, {3, 7, 7, 3, 2, 3, 5, 14, 11, 3}},
+    {0x10003, 0, {3, 7, 7, 4, 2, 3, 5, 14, 11, 3}},
+    {0x0000000600010F02, 9, {3, 7, 8, 4, 2, 3, 5, 14, 12, 3}},
+    {0x1FF19, 6, {3, 8, 8, 4, 2, 3, 5, 14, 12, 3}},
+    {0xFF09, 7, {3, 9, 8, 4, 2, 3, 5, 15, 12, 3}},
+    {0x0000000500010F02, 9, {3, 9, 9, 4, 2, 3, 5, 15, 14, 3}},
 };
 
 enum { TOTALS_ORDERS = sizeof totals_list / sizeof totals_list[0] };

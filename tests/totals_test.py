@@ -15,7 +15,7 @@ EMPTY = trace(1, 1, 1, [])
 EXAMPLE_ROW = " 1 1 0 0 0 0 1 1 1 0\n"
 
 # The orders of document 01's list on memory of zeros, and a device write and a flush: what they read, write and swap,
-# as order 4 of document 02 amends it.
+# as orders 4 and 7 of document 02 amend it.
 LISTED = [(word(READ, 1, 0), 0),                              # 1/0
           (word(READ, 1, 1), 0),                              # 1/0
           (word(WRITE, 1, 1, 0xFF), 9),                       # 0/0
@@ -28,7 +28,7 @@ LISTED = [(word(READ, 1, 0), 0),                              # 1/0
           (word(FLUSH, 0, 1, line=1), 0),                     # 0/0
           (word(SWAP, 1, 1, 0xF0, line=1, compare=1), 0),     # 1/0
           (word(WRITE, 1, 1, 0x00, line=1), 0),               # 0/0
-          (word(SWAP, 0, 0, 0xF0, line=1, compare=1), 0),     # 1/0
+          (word(SWAP, 0, 0, 0xF0, line=1, compare=1), 0),     # 0/1
           (word(READ, 0, 2), 0),                              # refused 5
           (word(DEVICE_WRITE, mask=0xFF), 1),                 # 1/1
           (word(WRITE, 1, 0, 0xFF), 2),                       # 1/0
@@ -36,7 +36,7 @@ LISTED = [(word(READ, 1, 0), 0),                              # 1/0
           (word(6), 0), (word(7), 0),                         # refused 4
           (word(DEVICE_READ, line=2), 0),                     # refused 6
           (word(SWAP, mask=0xFF), 0)]                         # refused 7
-LISTED_ROW = " 3 4 4 2 2 1 5 9 5 1\n"
+LISTED_ROW = " 3 4 4 2 2 1 5 8 6 1\n"
 
 # Shapes that are refused 2.
 NO_SHAPES = [(0, 1, 1), (9, 1, 1), (2 ** 32 - 1, 1, 1), (1, 0, 1), (1, 3, 1), (1, 128, 1), (1, 1, 0), (1, 1, 4097)]
@@ -59,7 +59,7 @@ def literals(tester):
     tester.test("orders of each kind, and refused ones", [
         tester.agrees(listed, text(LISTED_ROW, total=LISTED_ROW)),
         tester.agrees(example + listed + EMPTY,
-                      text(EXAMPLE_ROW, LISTED_ROW, NOTHING, total=" 4 5 4 2 2 1 6 10 6 1\n"))])
+                      text(EXAMPLE_ROW, LISTED_ROW, NOTHING, total=" 4 5 4 2 2 1 6 9 7 1\n"))])
     # A trace starts from fresh on memory of zeros, whatever the one before it left.
     written = trace(1, 1, 1, [(word(WRITE, 0, mask=0xFF), 1), (word(SWAP, mask=0x0F, compare=1), 2)])
     tester.test("each trace from fresh on memory of zeros", [

@@ -215,6 +215,26 @@ def same_stores(tester):
     tester.test("stores that store the same", [tester.agrees(trace(2, 1, 2, listed), literal.encode())])
 
 
+def failed_swaps(tester):
+    """Swaps that fail: of a line that nobody holds, that a port has clean and that a port owns, in either mode; of one
+    whose port owns another line; and of the other half. Copies stay, so that nothing is read again."""
+    listed = [(word(WRITE, 0, 0, 0xFF), 0x700000005), (word(SWAP, 1, 1, 0x0F, compare=6), 9),
+              (word(READ, 1, 0), 0), (word(WRITE, 1, 0, 0x01), 8), (word(FLUSH, 0, 1), 0),
+              (word(SWAP, 1, 1, 0x0F, compare=5), 9), (word(DEVICE_READ), 0), (word(FLUSH, 0, 1), 0),
+              (word(SWAP, 0, 1, 0xF0, compare=8), 9 << 32), (word(DEVICE_READ), 0), (word(READ, 0, 0), 0),
+              (word(WRITE, 1, 0, 0xFF, line=1), 3), (word(SWAP, 1, 1, 0xF0, line=1, compare=3), 9),
+              (word(SWAP, 0, 0, 0x0F, compare=7), 9), (word(SWAP, 1, 1, 0x0F, line=1, compare=3), 4)]
+    answers = ["0 0 1 1", f"{0x700000005} 0 1 0",
+               f"{0x700000005} 0 0 0", "0 0 0 0", "0 0 0 0",
+               f"{0x700000008} 0 0 0", f"{0x700000005} 0 1 0", "0 0 0 0",
+               f"{0x700000008} 0 0 1", f"{0x700000008} 0 1 0", f"{0x700000008} 0 0 0",
+               "0 0 1 0", "3 0 0 0",
+               f"{0x700000008} 0 1 1", "3 1 0 0"]
+    literal = "ports 2 sets 1 lines 2 orders 15\n"
+    literal += "".join(f"{k + 1} 0 {answer}\n" for k, answer in enumerate(answers)) + "audit 1\n"
+    tester.test("swaps that fail", [tester.agrees(trace(2, 1, 2, listed), literal.encode())])
+
+
 def start(name, inputs):
     """The options, what runs the program and compares, and the random numbers."""
     parser = argparse.ArgumentParser()
@@ -251,6 +271,7 @@ def main():
     orders(tester, generator)
     device_writes(tester)
     same_stores(tester)
+    failed_swaps(tester)
     tester.test("random traces", (tester.agrees(random_trace(generator)) for _ in range(chosen.random)))
     finish(chosen, tester)
 

@@ -1,5 +1,5 @@
--- What holds on every input: a step makes few memory accesses, swaps at most once and never answers 9, what it accepts is of one of the kinds, a
--- refusal changes nothing; the audit says its plain facts, and finding's answer has its number. Assumes nothing.
+-- What holds on every input: a step makes few memory accesses, swaps at most once and never answers 9, a swap that fails does what a read does,
+-- what a step accepts is of one of the kinds, a refusal changes nothing; the audit says its plain facts, and finding's answer has its number. Assumes nothing.
 use Prim.Native.Nat.{ℕ, _<_, _≤_}
 use mathlib.Core.Path.{_≡_, refl}
 use mathlib.Core.Logic.{_≢_}
@@ -10,9 +10,12 @@ use borrow.Author.Tests.{eqb-false, leb-false, not-true}
 use Rattle.words.specs.Bools.{bit}
 use Rattle.protocol.specs.declared.state.Mode.{Mode}
 use Rattle.words.specs.declared.access.Access.{Access}
+use Rattle.words.specs.declared.access.Access.the-variants.{Read, Swap}
+use Rattle.words.specs.Word.{half}
 use Rattle.words.specs.Access.{effectAt}
 use Rattle.protocol.specs.Rules.{flushRule}
 use Rattle.words.proofs.Bools.{Is, by-bool, by-cond}
+use Rattle.words.proofs.Effects.{read-effect, swap-succeeds, swap-fails}
 use Rattle.shape.specs.declared.Shape.{Shape}
 use Rattle.model.specs.declared.order.Call.{Call}
 use Rattle.model.specs.declared.order.Call.the-variants.{ByPort, Flush, DeviceRead, DeviceWrite}
@@ -23,7 +26,7 @@ use Rattle.shape.specs.Shape.{refusalOf}
 use Rattle.model.specs.Tables.{Model, lentRefusal, columnSound, seen, holds, dirty}
 use Rattle.model.specs.Step.{Result, refuse, wordFound, fetches, evictsOwner, accessRule, accessed, flushed, deviceWritten}
 use Rattle.model.specs.Step.{called, perform, step}
-use Rattle.model.specs.Claims.{FewAccesses, SwappedOnce, AcceptedKind, NeverNine, RefusedChangesNothing, FindSays, AuditSays}
+use Rattle.model.specs.Claims.{FewAccesses, SwappedOnce, FailedSwapReads, AcceptedKind, NeverNine, RefusedChangesNothing, FindSays, AuditSays}
 use Rattle.model.specs.declared.found.Found.{Found}
 use Rattle.model.specs.declared.found.Found.the-variants as finds
 use Rattle.model.specs.Below.{Lowest, none, number, lowest}
@@ -117,6 +120,36 @@ swapped-once s o t = step-fair s o t .0
 
 pub never-nine : NeverNine
 never-nine s o t = step-fair s o t .1
+
+-- What is to hold of a swap's result and a read's: the one is the other, where it answers 'not swapped'. Refusals that come first are the same in both.
+abbrev AsRead : Result → Result → Type 0
+AsRead r q = r .answer .swapped ≡ 0 → r ≡ q
+
+past-refusal : (b : Bool) (x : Result) {r q : Result} → AsRead r q → AsRead (cond b x r) (cond b x q)
+past-refusal true x f h = refl
+past-refusal false x f h = f h
+
+up-to-refusal : (b : Bool) (x : Result) {r q : Result} → AsRead r q → AsRead (cond b r x) (cond b q x)
+up-to-refusal true x f h = f h
+up-to-refusal false x f h = refl
+
+accessed-as-read : (s : Shape) (t : Model) (i a mask x compare : ℕ) (m : Mode)
+    → AsRead (accessed s t i a (Swap mask x compare) m) (accessed s t i a Read m)
+unfolding accessed
+accessed-as-read s t i a mask x compare m h =
+    let w = wordFound s t i a in
+    by-bool (eqb (half mask w) compare) (λ e. absurd (let n = rw (swap-succeeds mask compare x w e) at h in omega (arith, n)))
+    (λ e. rw (swap-fails mask compare x w e, read-effect w))
+
+perform-as-read : (s : Shape) (t : Model) (i a mask x compare : ℕ) (m : Mode)
+    → AsRead (perform s t (Asked (ByPort (Swap mask x compare) m i) a)) (perform s t (Asked (ByPort Read m i) a))
+unfolding perform called
+perform-as-read s t i a mask x compare m = past-refusal (not (columnSound s t a)) _ (accessed-as-read s t i a mask x compare m)
+
+pub failed-swap-reads : FailedSwapReads
+unfolding step
+failed-swap-reads s t i a mask x compare m swap read ds dr =
+    rw (ds, dr) (up-to-refusal (eqb (lentRefusal s t) 0) _ (perform-as-read s t i a mask x compare m))
 
 -- An order of any other kind is refused.
 other-kind : (s : Shape) (o : Order) → Is (leb kinds (kindOf o)) → decode s o ≡ Refused 4

@@ -3,8 +3,12 @@ use Prim.Native.Nat.{ℕ, _<_, _≤_}
 use mathlib.Core.Path.{_≡_}
 use mathlib.Core.Logic.{_≢_, _↔_}
 use mathlib.Core.Bool.{true}
+use Rattle.protocol.specs.declared.state.Mode.{Mode}
+use Rattle.words.specs.declared.access.Access.the-variants.{Read, Swap}
 use Rattle.shape.specs.declared.Shape.{Shape}
-use Rattle.model.specs.Order.{Order, kinds, kindOf}
+use Rattle.model.specs.declared.order.Call.the-variants.{ByPort}
+use Rattle.model.specs.declared.order.Decoded.the-variants.{Asked}
+use Rattle.model.specs.Order.{Order, kinds, kindOf, decode}
 use Rattle.model.specs.Tables.{Model}
 use Rattle.model.specs.Step.{step, refuse}
 use Rattle.model.specs.Audit.{audit, Coherent}
@@ -17,6 +21,15 @@ FewAccesses = (s : Shape) (o : Order) (t : Model) → (step s o t .answer .reads
 -- The swapped number is 0 or 1.
 abbrev pub SwappedOnce : Type 0
 SwappedOnce = (s : Shape) (o : Order) (t : Model) → step s o t .answer .swapped ≤ 1
+
+-- A swap that fails does exactly what a read does, on a hit and on a miss: where a swap answers 'not swapped', the step, answer, memory and tables, is
+-- that of a read by the same port of the same line in the same mode. (Under refusal 2, 3, 12 or 8 it answers so too, and that read is refused
+-- likewise. Of a swap with refusal 7, whose mask no read has, nothing is said.)
+abbrev pub FailedSwapReads : Type 0
+FailedSwapReads =
+    (s : Shape) (t : Model) (i a mask x compare : ℕ) (m : Mode) (swap read : Order)
+    → decode s swap ≡ Asked (ByPort (Swap mask x compare) m i) a → decode s read ≡ Asked (ByPort Read m i) a
+    → step s swap t .answer .swapped ≡ 0 → step s swap t ≡ step s read t
 
 -- An accepted order is of one of the kinds.
 abbrev pub AcceptedKind : Type 0

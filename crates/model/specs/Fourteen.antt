@@ -1,5 +1,5 @@
--- Document 01's fourteen orders, as document 02's fourth request amends them (order 12 leaves the word as it was), as one table: the order,
--- the five numbers, then the bytes of the states in which ports 0 and 1 see the order's line, and the two memory words.
+-- Document 01's fourteen orders, as document 02's seventh request amends them (order 11 is a swap miss that fails, and leaves port 0 its copy), as
+-- one table: the order, the five numbers, then the bytes of the states in which ports 0 and 1 see the order's line, and the two memory words.
 -- The proof is `fourteen-hold` in proofs/Examples.antt.
 use Prim.Native.Nat.{ℕ, _+_, _*_, _^_}
 use mathlib.Core.Path.{_≡_}
@@ -64,9 +64,9 @@ table =
     row (swap 1 0 Back 0x0F 9 0) (answer 0 4 0 0 0) 11 9 9 7 ∷
     row (write 0 1 Through 0x01 0x1FF) (answer 0 0 0 1 2) 2 0 4 255 ∷
     row (flush 1 1) (answer 0 0 0 0 0) 2 0 4 255 ∷
-    row (swap 1 1 Back 0xF0 1 0) (answer 0 255 0 1 0) 0 10 4 255 ∷
-    row (write 1 1 Back 0 0) (answer 0 0 0 0 0) 0 10 4 255 ∷
-    row (swap 0 1 Through 0xF0 1 0) (answer 0 255 0 1 0) 2 0 4 255 ∷
+    row (swap 1 1 Back 0xF0 1 0) (answer 0 255 0 1 0) 9 9 4 255 ∷
+    row (write 1 1 Back 0 0) (answer 0 0 0 0 0) 9 11 4 255 ∷
+    row (swap 0 1 Through 0xF0 1 0) (answer 0 255 0 0 1) 1 1 4 255 ∷
     row (read 2 0 Through) (answer 5 0 0 0 0) 0 0 4 255 ∷
     []
 

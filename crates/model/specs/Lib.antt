@@ -13,5 +13,6 @@ pub mod Claims
 pub mod Fourteen
 pub mod DeviceWrites
 pub mod SameStores
+pub mod FailedSwaps
 pub mod Ranges
 pub mod RangeOrders

@@ -1,4 +1,4 @@
--- Stores that leave the word as it was, as tables in the form of the fourteen orders. (Of the fourteen, order 12 is one.)
+-- Stores that leave the word as it was, as tables in the form of the fourteen orders. (Of the fourteen, order 12 is one, on S.)
 -- The proof is `same-stores-hold` in proofs/Examples.antt.
 use mathlib.Core.Bool.{true, false}
 use mathlib.Core.Path.{_≡_}
@@ -52,7 +52,7 @@ others =
 
 -- In write through the word is stored always: on a shared S, on O, shared and alone, on M, and at a miss of a line that another port holds clean
 -- or owns.
--- At the end a swap that fails takes an owner's word and stores it, as order 13 of the fourteen did when order 12 made an owner.
+-- At the end a swap that fails takes an owner's word, which is stored, and both ports share the line.
 unfoldable pub stored : List Row
 stored =
     row (read 0 1 Back) (answer 0 7 0 1 0) 10 0 5 7 ∷
@@ -69,7 +69,7 @@ stored =
     row (write 0 1 Back 0xFF 7) (answer 0 0 0 1 0) 12 0 5 7 ∷
     row (write 1 1 Through 0xFF 7) (answer 0 0 0 0 1) 0 2 5 7 ∷
     row (write 0 1 Back 0xFF 7) (answer 0 0 0 1 0) 12 0 5 7 ∷
-    row (swap 1 1 Through 0xF0 1 0) (answer 0 7 0 0 1) 0 2 5 7 ∷
+    row (swap 1 1 Through 0xF0 1 0) (answer 0 7 0 0 1) 1 1 5 7 ∷
     []
 
 -- Tables that fail the audit: line 1 in E at both ports, with different words. A hit is by the port's own entry, and leaves the other's alone.

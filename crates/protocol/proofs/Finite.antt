@@ -6,7 +6,7 @@ use Rattle.protocol.specs.declared.state.Mode.the-variants.{Through, Bac
 use Rattle.protocol.specs.declared.state.State.{State}
 use Rattle.protocol.specs.declared.state.State.the-variants.{I, S, E, O, M}
 use Rattle.words.specs.declared.access.Outcome.{Outcome}
-use Rattle.words.specs.declared.access.Outcome.the-variants.{Reads, Fails, Writes, Rewrites}
+use Rattle.words.specs.declared.access.Outcome.the-variants.{Reads, Writes, Rewrites}
 use Rattle.protocol.specs.declared.rules.Bus.{Bus}
 use Rattle.protocol.specs.declared.rules.Bus.the-variants.{Quiet, Share, Update, Invalidate, ShareOwned}
 use Rattle.words.proofs.Bools.{Is, and-l, and-r}
@@ -26,11 +26,10 @@ at-mode p h Through = and-l (p Through) (p Back) h
 at-mode p h Back = and-r (p Through) (p Back) h
 
 abbrev pub forOutcomes : (Outcome → Bool) → Bool
-forOutcomes p = p Reads && p Fails && p Writes && p Rewrites
+forOutcomes p = p Reads && p Writes && p Rewrites
 
 pub at-outcome : (p : Outcome → Bool) → Is (forOutcomes p) → (k : Outcome) → Is (p k)
 at-outcome p h Reads = search (and-l, and-r)
-at-outcome p h Fails = search (and-l, and-r)
 at-outcome p h Writes = search (and-l, and-r)
 at-outcome p h Rewrites = search (and-l, and-r)
 

@@ -11,7 +11,7 @@ use Rattle.protocol.specs.declared.state.Mode.the-variants.{Through, Bac
 use Rattle.protocol.specs.declared.state.State.{State}
 use Rattle.protocol.specs.declared.state.State.the-variants.{I, S, E, O, M}
 use Rattle.words.specs.declared.access.Outcome.{Outcome}
-use Rattle.words.specs.declared.access.Outcome.the-variants.{Reads, Fails, Writes, Rewrites}
+use Rattle.words.specs.declared.access.Outcome.the-variants.{Reads, Writes, Rewrites}
 use Rattle.protocol.specs.declared.rules.Bus.{Bus}
 use Rattle.protocol.specs.declared.rules.Bus.the-variants.{Quiet, Share, Update, Invalidate, ShareOwned}
 use Rattle.protocol.specs.declared.rules.Rule.{Rule}
@@ -21,8 +21,8 @@ use Rattle.words.specs.Bools.{bit}
 use Rattle.words.specs.Access.{writes}
 use Rattle.protocol.specs.State.{code, stateOf, isState, orInvalid, isBack}
 use Rattle.protocol.specs.Rules.{rule, snooped, updates}
-use Rattle.protocol.specs.Coded.{busNumber, busAt, coded, pack, nibbleAt, packed, actNumber, ownRow, outcomeNumber, modeNumber, outcomeAt}
-use Rattle.protocol.specs.Coded.{modeAt, ownRowAt, fails, takenOff, snoopRow}
+use Rattle.protocol.specs.Coded.{busNumber, busAt, coded, pack, nibbleAt, packed, actNumber, ownRow, modeNumber, outcomeAt}
+use Rattle.protocol.specs.Coded.{modeAt, ownRowAt, takenOff, snoopRow}
 use Rattle.words.proofs.Bools.{Is, by-bool, by-cond}
 use Rattle.protocol.proofs.Finite.{at-bus}
 use Rattle.protocol.proofs.States.{code-small, code-stateOf}
@@ -53,14 +53,12 @@ last B k n h l = let m = apart-le B k n h in omega (arith, m)
 -- What stands at the number of a row. A rewrite has the row of a write.
 abbrev rowOutcome : Outcome → Outcome
 rowOutcome Reads = Reads
-rowOutcome Fails = Fails
 rowOutcome Writes = Writes
 rowOutcome Rewrites = Writes
 
-outcome-at : (k : Outcome) → outcomeAt (outcomeNumber k) ≡ rowOutcome k
+outcome-at : (k : Outcome) → outcomeAt (bit (writes k)) ≡ rowOutcome k
 unfolding outcomeAt
 outcome-at Reads = refl
-outcome-at Fails = refl
 outcome-at Writes = refl
 outcome-at Rewrites = refl
 
@@ -82,7 +80,7 @@ bit-small true = omega arith
 bit-small false = omega arith
 
 abbrev rowNumber : Outcome → Mode → Bool → Bool → ℕ
-rowNumber k m shared dirty = ((outcomeNumber k * 2 + modeNumber m) * 2 + bit shared) * 2 + bit dirty
+rowNumber k m shared dirty = ((bit (writes k) * 2 + modeNumber m) * 2 + bit shared) * 2 + bit dirty
 
 row-at : (k : Outcome) (m : Mode) (shared dirty : Bool) → ownRowAt (rowNumber k m shared dirty) ≡ ownRow (rowOutcome k) m shared dirty
 unfolding ownRowAt
@@ -90,7 +88,7 @@ row-at k m shared dirty =
     let hm = mode-small m in
     let hs = bit-small shared in
     let hd = bit-small dirty in
-    let at-k : rowNumber k m shared dirty / 8 ≡ outcomeNumber k = digit-3 _ _ _ _ hm hs hd in
+    let at-k : rowNumber k m shared dirty / 8 ≡ bit (writes k) = digit-3 _ _ _ _ hm hs hd in
     let at-m : rowNumber k m shared dirty / 4 % 2 ≡ modeNumber m = digit-2 _ _ _ _ hm hs hd in
     let at-s : rowNumber k m shared dirty / 2 % 2 ≡ bit shared = digit-1 _ _ _ _ hs hd in
     let at-d : rowNumber k m shared dirty % 2 ≡ bit dirty = digit-0 _ _ _ _ hd in
@@ -143,17 +141,6 @@ act-stores r = let h = bus-below (r .bus) in stored (busNumber (r .bus)) (r .sto
 place : (s : ℕ) → Is (isState (stateOf s)) → s % 16 ≡ code (orInvalid (stateOf s))
 place s h = omega (arith, code-stateOf s h, code-small (orInvalid (stateOf s)))
 
--- The number of an outcome, from two tests.
-outcome-number : (k : Outcome) → (2 * bit (writes k) + bit (fails k) ≡ outcomeNumber k) × (2 * bit (writes k) + bit (fails k) ≤ 2)
-outcome-number Reads = (refl, omega arith)
-outcome-number Fails = (refl, omega arith)
-outcome-number Writes = (refl, omega arith)
-outcome-number Rewrites = (refl, omega arith)
-
-pub outcome-number-is : (k : Outcome) {a b : ℕ} {w f : Bool} → w ≡ writes k → a ≡ bit w → f ≡ fails k → b ≡ bit f
-    → (2 * a + b ≡ outcomeNumber k) × (2 * a + b ≤ 2)
-outcome-number-is k ew ea ef eb = rw (ea, ew, eb, ef) (outcome-number k)
-
 pub back-number : (m : Mode) → eqb (modeNumber m) 1 ≡ isBack m
 back-number Through = refl
 back-number Back = refl
@@ -162,7 +149,6 @@ back-number Back = refl
 acts-same : (k : Outcome) (m : Mode) (shared dirty : Bool) → ownRow (rowOutcome k) m shared dirty .1 ≡ ownRow k m shared dirty .1
 unfolding ownRow packed pack actNumber rule
 acts-same Reads m shared dirty = refl
-acts-same Fails m shared dirty = refl
 acts-same Writes m shared dirty = refl
 acts-same Rewrites m shared dirty = refl
 
@@ -174,30 +160,29 @@ Cleaned k m shared dirty =
 cleaned : (k : Outcome) (m : Mode) (shared dirty : Bool) → Cleaned k m shared dirty
 unfolding takenOff ownRow packed pack rule code
 cleaned Reads m shared dirty = (omega arith, omega arith)
-cleaned Fails m shared dirty = (omega arith, omega arith)
 cleaned Writes m shared dirty = (omega arith, omega arith)
 cleaned Rewrites Through shared dirty = (omega arith, omega arith)
 cleaned Rewrites Back true dirty = (omega arith, refl)
 cleaned Rewrites Back false dirty = (omega arith, refl)
 
 -- The row has what is taken off it, and its nibbles are the rule.
-pub row-fits : (k : Outcome) (m : Mode) (shared dirty : Bool) {a b c d off : ℕ} {row : Row} →
-    a ≡ outcomeNumber k → b ≡ modeNumber m → c ≡ bit shared → d ≡ bit dirty → row ≡ ownRowAt (((a * 2 + b) * 2 + c) * 2 + d) →
+pub row-fits : (k : Outcome) (m : Mode) (shared dirty : Bool) {a b c d off : ℕ} {w : Bool} {row : Row} →
+    w ≡ writes k → a ≡ bit w → b ≡ modeNumber m → c ≡ bit shared → d ≡ bit dirty → row ≡ ownRowAt (((a * 2 + b) * 2 + c) * 2 + d) →
     off ≡ takenOff k m → off ≤ row .0
-row-fits k m shared dirty ea eb ec ed er ek = rw (ek, er, ea, eb, ec, ed, row-at k m shared dirty) (cleaned k m shared dirty .0)
+row-fits k m shared dirty ew ea eb ec ed er ek = rw (ek, er, ea, ew, eb, ec, ed, row-at k m shared dirty) (cleaned k m shared dirty .0)
 
-pub own-rule-is : (k : Outcome) (m : Mode) (shared dirty : Bool) (s : ℕ) → Is (isState (stateOf s)) → {a b c d off x y : ℕ} {row : Row} →
-    a ≡ outcomeNumber k → b ≡ modeNumber m → c ≡ bit shared → d ≡ bit dirty → row ≡ ownRowAt (((a * 2 + b) * 2 + c) * 2 + d) →
+pub own-rule-is : (k : Outcome) (m : Mode) (shared dirty : Bool) (s : ℕ) → Is (isState (stateOf s)) → {a b c d off x y : ℕ} {w : Bool} {row : Row} →
+    w ≡ writes k → a ≡ bit w → b ≡ modeNumber m → c ≡ bit shared → d ≡ bit dirty → row ≡ ownRowAt (((a * 2 + b) * 2 + c) * 2 + d) →
     x ≡ nibbleAt (row .1) (s % 16) → off ≡ takenOff k m → y ≡ nibbleAt (row .0 - off) (s % 16) →
     _≡_ {A = Coded} (record { own = y; bus = x % 8; stores = leb 8 x }) (coded (rule k m shared dirty (orInvalid (stateOf s))))
 unfolding ownRow coded
-own-rule-is k m shared dirty s h ea eb ec ed er ex ek ey =
+own-rule-is k m shared dirty s h ew ea eb ec ed er ex ek ey =
     let z = orInvalid (stateOf s) in
     let r = rule k m shared dirty z in
     let own = packed-at (λ s. code (rule k m shared dirty s .own)) (λ s. code-small (rule k m shared dirty s .own)) z in
     let act = packed-at (λ s. actNumber (rule k m shared dirty s)) (λ s. act-small (rule k m shared dirty s)) z in
     let next = cleaned k m shared dirty .1 in
-    rw (ey, ek, ex, er, ea, eb, ec, ed, row-at k m shared dirty, next, acts-same k m shared dirty, place s h, own, act, act-bus r, act-stores r)
+    rw (ey, ek, ex, er, ea, ew, eb, ec, ed, row-at k m shared dirty, next, acts-same k m shared dirty, place s h, own, act, act-bus r, act-stores r)
 
 -- The nibble of the command's row is what the holder becomes.
 pub snooped-is : (n s : ℕ) → Is (isState (stateOf s)) → {row x : ℕ} → row ≡ snoopRow n → x ≡ nibbleAt row (s % 16) →

@@ -8,7 +8,7 @@ use Rattle.protocol.specs.declared.state.Mode.the-variants.{Through, Bac
 use Rattle.protocol.specs.declared.state.State.{State}
 use Rattle.protocol.specs.declared.state.State.the-variants.{I, S, E, O, M}
 use Rattle.words.specs.declared.access.Outcome.{Outcome}
-use Rattle.words.specs.declared.access.Outcome.the-variants.{Reads, Fails, Writes, Rewrites}
+use Rattle.words.specs.declared.access.Outcome.the-variants.{Reads, Writes, Rewrites}
 use Rattle.protocol.specs.declared.rules.Bus.{Bus}
 use Rattle.protocol.specs.declared.rules.Bus.the-variants.{Quiet, Share, Update, Invalidate, ShareOwned}
 use Rattle.protocol.specs.declared.rules.Rule.{Rule}
@@ -66,20 +66,14 @@ ownRow k m shared dirty = record {
   1 = packed (λ s. actNumber (rule k m shared dirty s));
 }
 
--- The number of a row: outcome, mode, shared and dirty, as the digits 0 to 2, 0 or 1, 0 or 1, 0 or 1; and what stands at a number. A rewrite has
--- the rows of a write.
-abbrev pub outcomeNumber : Outcome → ℕ
-outcomeNumber Reads = 0
-outcomeNumber Fails = 1
-outcomeNumber Writes = 2
-outcomeNumber Rewrites = 2
-
+-- The number of a row: whether the access writes, its mode, shared and dirty, as digits 0 or 1, the last one lowest; and what stands at a number. A
+-- rewrite has the rows of a write.
 abbrev pub modeNumber : Mode → ℕ
 modeNumber Through = 0
 modeNumber Back = 1
 
 unfoldable pub outcomeAt : ℕ → Outcome
-outcomeAt n = cond (eqb n 0) Reads (cond (eqb n 1) Fails Writes)
+outcomeAt n = cond (eqb n 0) Reads Writes
 
 unfoldable pub modeAt : ℕ → Mode
 modeAt n = cond (eqb n 0) Through Back
@@ -87,16 +81,9 @@ modeAt n = cond (eqb n 0) Through Back
 unfoldable pub ownRowAt : ℕ → Row
 ownRowAt n = ownRow (outcomeAt (n / 8)) (modeAt (n / 4 % 2)) (eqb (n / 2 % 2) 1) (eqb (n % 2) 1)
 
--- A swap that fails; and a rewrite. (With `writes`, what the code asks of an outcome.)
-abbrev pub fails : Outcome → Bool
-fails Reads = false
-fails Fails = true
-fails Writes = false
-fails Rewrites = false
-
+-- A rewrite. (With `writes`, what the code asks of an outcome.)
 abbrev pub rewrites : Outcome → Bool
 rewrites Reads = false
-rewrites Fails = false
 rewrites Writes = false
 rewrites Rewrites = true
 

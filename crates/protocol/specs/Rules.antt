@@ -6,7 +6,7 @@ use Rattle.protocol.specs.declared.state.Mode.the-variants.{Through, Bac
 use Rattle.protocol.specs.declared.state.State.{State}
 use Rattle.protocol.specs.declared.state.State.the-variants.{I, S, E, O, M}
 use Rattle.words.specs.declared.access.Outcome.{Outcome}
-use Rattle.words.specs.declared.access.Outcome.the-variants.{Reads, Fails, Writes, Rewrites}
+use Rattle.words.specs.declared.access.Outcome.the-variants.{Reads, Writes, Rewrites}
 use Rattle.protocol.specs.declared.rules.Bus.{Bus}
 use Rattle.protocol.specs.declared.rules.Bus.the-variants.{Quiet, Share, Update, Invalidate, ShareOwned}
 use Rattle.protocol.specs.declared.rules.Rule.{Rule}
@@ -91,7 +91,6 @@ rewriteHit m shared O = writeHit m shared O
 
 abbrev pub hit : Outcome → Mode → Bool → Bool → State → Rule
 hit Reads m shared dirty s = readHit m dirty s
-hit Fails m shared dirty s = readHit m dirty s
 hit Writes m shared dirty s = writeHit m shared s
 hit Rewrites m shared dirty s = rewriteHit m shared s
 
@@ -99,12 +98,12 @@ hit Rewrites m shared dirty s = rewriteHit m shared s
 abbrev pub writeMiss : Mode → Rule
 writeMiss m = ruled (alone m) Invalidate (isThrough m)
 
--- A miss. The word comes from an owner where the line is dirty, else from memory.
+-- A miss: by a read, or a swap that fails; and by a write, or a swap that succeeds. The word comes from an owner where the line is dirty, else from
+-- memory.
 abbrev pub miss : Outcome → Mode → Bool → Bool → Rule
 miss Reads m shared dirty = ruled (cond shared (S m) (E m)) (cond (isBack m) ShareOwned (Share m)) (dirty && isThrough m)
 miss Writes m shared dirty = writeMiss m
 miss Rewrites m shared dirty = writeMiss m
-miss Fails m shared dirty = ruled (cond dirty (alone m) (E m)) Invalidate (dirty && isThrough m)
 
 -- The port's own table: the rule for a port that sees the line in the state s, I where its entry is of another line.
 unfoldable pub rule : Outcome → Mode → Bool → Bool → State → Rule

@@ -10,8 +10,7 @@ ghost use Rattle.words.specs.Bools.{bit};
 ghost use Rattle.words.specs.Access.{writes};
 ghost use Rattle.protocol.specs.State.{code, stateOf, orInvalid, isState};
 ghost use Rattle.protocol.specs.Rules.{rule, snooped, updates};
-ghost use Rattle.protocol.specs.Coded.{busAt, coded, nibbleAt, outcomeNumber, modeNumber, ownRowAt, snoopRow};
-ghost use Rattle.protocol.specs.Coded.{fails, rewrites, takenOff};
+ghost use Rattle.protocol.specs.Coded.{busAt, coded, nibbleAt, modeNumber, ownRowAt, rewrites, takenOff, snoopRow};
 
 // What a port says to the other holders, or a device to all: nothing; become S in a mode; that, and take the new word; become I; become write-back S,
 // but an owner stays the owner, as O.
@@ -42,7 +41,7 @@ pub struct Coded {
 pub struct Row(pub u64, pub u64);
 
 fn own_row(n: u8) -> Row
-    requires { ⌜ n < 24 ⌝ }
+    requires { ⌜ n < 16 ⌝ }
     ensures { λ r. ⌜ r ≡ ownRowAt n ⌝ }
 {
     match n {
@@ -54,21 +53,13 @@ fn own_row(n: u8) -> Row
         5 => Row(0xCBA9000000A9A, 0x0000000000042),
         6 => Row(0xCBA9000000A99, 0x0000000000042),
         7 => Row(0xCBA9000000A99, 0x0000000000042),
-        8 => Row(0x2121000000212, 0x8303000000001),
-        9 => Row(0x2121000000212, 0x8B0B000000009),
-        10 => Row(0x2121000000212, 0x8303000000001),
-        11 => Row(0x2121000000212, 0x8B0B000000009),
-        12 => Row(0xCBA9000000A9A, 0x0000000000041),
-        13 => Row(0xCBA9000000A9C, 0x0000000000041),
-        14 => Row(0xCBA9000000A9A, 0x0000000000041),
-        15 => Row(0xCBA9000000A9C, 0x0000000000041),
-        16 => Row(0x2222000000222, 0x8D8D0000008D9),
-        17 => Row(0x2222000000222, 0x8D8D0000008D9),
-        18 => Row(0x2121000000212, 0x8D8D0000008D9),
-        19 => Row(0x2121000000212, 0x8D8D0000008D9),
-        20 => Row(0xCCCC000000CCC, 0x0606000000061),
-        21 => Row(0xCCCC000000CCC, 0x0606000000061),
-        22 => Row(0xCBCB000000CBC, 0x0606000000061),
+        8 => Row(0x2222000000222, 0x8D8D0000008D9),
+        9 => Row(0x2222000000222, 0x8D8D0000008D9),
+        10 => Row(0x2121000000212, 0x8D8D0000008D9),
+        11 => Row(0x2121000000212, 0x8D8D0000008D9),
+        12 => Row(0xCCCC000000CCC, 0x0606000000061),
+        13 => Row(0xCCCC000000CCC, 0x0606000000061),
+        14 => Row(0xCBCB000000CBC, 0x0606000000061),
         _ => Row(0xCBCB000000CBC, 0x0606000000061),
     }
 }
@@ -101,20 +92,8 @@ fn does_write(k: Outcome) -> bool
 {
     match k {
         Outcome::Reads => false,
-        Outcome::Fails => false,
         Outcome::Writes => true,
         Outcome::Rewrites => true,
-    }
-}
-
-fn does_fail(k: Outcome) -> bool
-    ensures { λ r. ⌜ r ≡ fails k ⌝ }
-{
-    match k {
-        Outcome::Reads => false,
-        Outcome::Fails => true,
-        Outcome::Writes => false,
-        Outcome::Rewrites => false,
     }
 }
 
@@ -123,17 +102,9 @@ fn does_rewrite(k: Outcome) -> bool
 {
     match k {
         Outcome::Reads => false,
-        Outcome::Fails => false,
         Outcome::Writes => false,
         Outcome::Rewrites => true,
     }
-}
-
-// A rewrite has the rows of a write: rows of its own would cost every miss (docs/DECISIONS.md).
-fn outcome_number(k: Outcome) -> u8
-    ensures { λ r. ⌜ (r ≡ outcomeNumber k) × (r ≤ 2) ⌝ }
-{
-    2 * bool_number(does_write(k)) + bool_number(does_fail(k))
 }
 
 // What a rewrite takes off the next states of a write's row: in write back, where the port sees E, 2, which makes write-back E of M.
@@ -159,12 +130,12 @@ fn bool_number(b: bool) -> u8
 }
 
 // The rule for a port that sees the line in the state of byte s, where `shared` says that another port holds it and `dirty` that some
-// port owns it.
+// port owns it. A rewrite has the rows of a write, less what is taken off (docs/DECISIONS.md).
 pub fn own_rule(k: Outcome, m: Mode, shared: bool, dirty: bool, s: u8) -> Coded
     requires { ⌜ isState (stateOf s) ≡ true ⌝ }
     ensures { λ r. ⌜ r ≡ coded (rule k m shared dirty (orInvalid (stateOf s))) ⌝ }
 {
-    let n = ((outcome_number(k) * 2 + mode_number(m)) * 2 + bool_number(shared)) * 2
+    let n = ((bool_number(does_write(k)) * 2 + mode_number(m)) * 2 + bool_number(shared)) * 2
         + bool_number(dirty);
     let row = own_row(n);
     let act = nibble(row.1, s);

@@ -75,8 +75,7 @@ fn put_bus(n: u8) {
 fn put_outcome(n: u8) {
     match n {
         0 => put(b"read         "),
-        1 => put(b"failed-swap  "),
-        2 => put(b"write        "),
+        1 => put(b"write        "),
         _ => put(b"rewrite      "),
     }
 }
@@ -91,8 +90,7 @@ fn put_mode(n: u8) {
 fn outcome_at(n: u8) -> Outcome {
     match n {
         0 => Outcome::Reads,
-        1 => Outcome::Fails,
-        2 => Outcome::Writes,
+        1 => Outcome::Writes,
         _ => Outcome::Rewrites,
     }
 }
@@ -151,7 +149,10 @@ fn put_snoop(k: u8)
 
 fn own_heading() {
     put(
-        b"# What a port does. write: a write or a swap that succeeds, which changes the line's word. rewrite: one that leaves it as it was (a silent store).\n",
+        b"# What a port does. read: a read, or a swap that fails; so a swap's bus command goes out when its comparison is known.\n",
+    );
+    put(
+        b"# write: a write, or a swap that succeeds, which changes the line's word. rewrite: one that leaves it as it was (a silent store).\n",
     );
     put(
         b"# shared: another port holds the line. dirty: some port owns it. state: how the port sees the line, I where it misses.\n",
@@ -167,7 +168,7 @@ fn snoop_heading() {
 
 fn put_own_table() {
     let mut k: u8 = 0;
-    while k < 224 {
+    while k < 168 {
         put_own(k);
         k += 1;
     }

@@ -7,13 +7,13 @@ use borrow.Author.Tests.{not-true, eqb-true}
 use Rattle.words.specs.declared.access.Access.{Access}
 use Rattle.words.specs.declared.access.Access.the-variants.{Read, Write, Swap}
 use Rattle.words.specs.declared.access.Outcome.{Outcome}
-use Rattle.words.specs.declared.access.Outcome.the-variants.{Reads, Fails, Writes, Rewrites}
+use Rattle.words.specs.declared.access.Outcome.the-variants.{Reads, Writes, Rewrites}
 use Rattle.words.specs.declared.access.Effect.{Effect}
 use Rattle.words.specs.Word.{merge, half}
-use Rattle.words.specs.Access.{effect, sameWord, writing, effectAt, writes, isWrite, isSwap, maskOf, operandOf, compareOf, outcomeOf}
+use Rattle.words.specs.Access.{effect, reading, sameWord, writing, effectAt, writes, isWrite, isSwap, maskOf, operandOf, compareOf, outcomeOf}
 use Rattle.words.proofs.Bools.{Is, contra, by-bool, by-cond}
 
-pub read-effect : (w : ℕ) → effectAt Read w ≡ effect Reads w w false
+pub read-effect : (w : ℕ) → effectAt Read w ≡ reading w
 unfolding effectAt
 read-effect w = refl
 
@@ -21,19 +21,18 @@ pub write-effect : (mask x w : ℕ) → effectAt (Write mask x) w ≡ writing w 
 unfolding effectAt
 write-effect mask x w = refl
 
--- A swap succeeds where the half compared is equal, and fails where it is not.
+-- A swap succeeds where the half compared is equal. Where it is not, it is a read.
 pub swap-succeeds : (mask compare x w : ℕ) → Is (eqb (half mask w) compare) → effectAt (Swap mask x compare) w ≡ writing w (merge mask w x) w true
 unfolding effectAt
 swap-succeeds mask compare x w h = rw h
 
-pub swap-fails : (mask compare x w : ℕ) → Is (not (eqb (half mask w) compare)) → effectAt (Swap mask x compare) w ≡ effect Fails w w false
+pub swap-fails : (mask compare x w : ℕ) → Is (not (eqb (half mask w) compare)) → effectAt (Swap mask x compare) w ≡ reading w
 unfolding effectAt
 swap-fails mask compare x w h = rw (not-true (eqb (half mask w) compare) h)
 
 -- A write, or a swap that succeeds, that changes the word.
 abbrev pub alters : Outcome → Bool
 alters Reads = false
-alters Fails = false
 alters Writes = true
 alters Rewrites = false
 
@@ -53,11 +52,10 @@ unaltered Read w h = refl
 unaltered (Write mask x) w h = write-unaltered w (merge mask w x) 0 false h
 unaltered (Swap mask x compare) w h =
     by-cond (λ (e : Effect). Is (not (alters (e .outcome))) → e .word ≡ w) (eqb (half mask w) compare)
-    (writing w (merge mask w x) w true) (effect Fails w w false) (λ _. write-unaltered w (merge mask w x) w true) (λ _ _. refl) h
+    (writing w (merge mask w x) w true) (reading w) (λ _. write-unaltered w (merge mask w x) w true) (λ _ _. refl) h
 
 alters-writes : (k : Outcome) → Is (alters k) → Is (writes k)
 alters-writes Reads h = h
-alters-writes Fails h = h
 alters-writes Writes h = h
 alters-writes Rewrites h = refl
 
@@ -67,7 +65,7 @@ unwritten acc w h = unaltered acc w (contra (alters (effectAt acc w .outcome)) (
 -- An effect put together from what is asked of the access, one by one.
 together : (a : Access) (w : ℕ)
     → let swapped = isSwap a && eqb (half (maskOf a) w) (compareOf a) in
-    effect (outcomeOf (isWrite a || swapped) (sameWord w (merge (maskOf a) w (operandOf a))) (isSwap a))
+    effect (outcomeOf (isWrite a || swapped) (sameWord w (merge (maskOf a) w (operandOf a))))
     (cond (isWrite a || swapped) (merge (maskOf a) w (operandOf a)) w) (cond (isWrite a) 0 w) swapped ≡ effectAt a w
 unfolding effectAt
 together Read w = refl
@@ -77,7 +75,7 @@ together (Swap mask x compare) w = by-bool (eqb (half mask w) compare) (λ h. rw
 pub effect-is : (a : Access) (w : ℕ) {mask half' compare operand full word value : ℕ} {write swap : Bool} {o : Outcome}
     → mask ≡ maskOf a → write ≡ isWrite a → swap ≡ isSwap a → half' ≡ half mask w → compare ≡ compareOf a
     → operand ≡ operandOf a → full ≡ merge mask w operand
-    → o ≡ outcomeOf (write || (swap && eqb half' compare)) (sameWord w full) swap
+    → o ≡ outcomeOf (write || (swap && eqb half' compare)) (sameWord w full)
     → word ≡ cond (write || (swap && eqb half' compare)) full w → value ≡ cond write 0 w
     → effect o word value (swap && eqb half' compare) ≡ effectAt a w
 effect-is a w p1 p2 p3 p4 p5 p6 p7 p8 p9 p10 = rw (p10, p9, p8, p7, p6, p5, p4, p3, p2, p1) (together a w)

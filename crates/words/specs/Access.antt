@@ -5,12 +5,16 @@ use lib.Dec.{eqb}
 use Rattle.words.specs.declared.access.Access.{Access}
 use Rattle.words.specs.declared.access.Access.the-variants.{Read, Write, Swap}
 use Rattle.words.specs.declared.access.Outcome.{Outcome}
-use Rattle.words.specs.declared.access.Outcome.the-variants.{Reads, Fails, Writes, Rewrites}
+use Rattle.words.specs.declared.access.Outcome.the-variants.{Reads, Writes, Rewrites}
 use Rattle.words.specs.declared.access.Effect.{Effect}
 use Rattle.words.specs.Word.{merge, half}
 
 abbrev pub effect : Outcome → ℕ → ℕ → Bool → Effect
 effect o w v s = record { outcome = o; word = w; value = v; swapped = s }
+
+-- A read of the word w, or a swap that fails: the word is the answer's value, and stays as it was.
+abbrev pub reading : ℕ → Effect
+reading w = effect Reads w w false
 
 -- A write leaves the word as it was: the whole word after it is the whole word before.
 abbrev pub sameWord : ℕ → ℕ → Bool
@@ -24,16 +28,16 @@ writeOutcome same = cond same Rewrites Writes
 abbrev pub writing : ℕ → ℕ → ℕ → Bool → Effect
 writing before after v s = effect (writeOutcome (sameWord before after)) after v s
 
--- A read's value is the word, and a write's is 0. A swap's is the word before; it succeeds if the half compared is equal, and then merges.
+-- A read's value is the word, and a write's is 0. A swap's is the word before; it succeeds if the half compared is equal, and then merges; if it
+-- fails, it is a read.
 unfoldable pub effectAt : Access → ℕ → Effect
-effectAt Read w = effect Reads w w false
+effectAt Read w = reading w
 effectAt (Write mask x) w = writing w (merge mask w x) 0 false
-effectAt (Swap mask x compare) w = cond (eqb (half mask w) compare) (writing w (merge mask w x) w true) (effect Fails w w false)
+effectAt (Swap mask x compare) w = cond (eqb (half mask w) compare) (writing w (merge mask w x) w true) (reading w)
 
 -- A write, or a swap that succeeds.
 abbrev pub writes : Outcome → Bool
 writes Reads = false
-writes Fails = false
 writes Writes = true
 writes Rewrites = true
 
@@ -64,6 +68,6 @@ compareOf Read = 0
 compareOf (Write mask x) = 0
 compareOf (Swap mask x compare) = compare
 
--- The outcome by whether the access writes, whether the merge leaves the word as it was, and whether it is a swap.
-abbrev pub outcomeOf : Bool → Bool → Bool → Outcome
-outcomeOf writes same swap = cond writes (writeOutcome same) (cond swap Fails Reads)
+-- The outcome by whether the access writes, and whether the merge leaves the word as it was.
+abbrev pub outcomeOf : Bool → Bool → Outcome
+outcomeOf writes same = cond writes (writeOutcome same) Reads

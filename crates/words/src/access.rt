@@ -11,11 +11,10 @@ pub enum Access {
     Swap(u8, u64, u64),
 }
 
-// What an access comes to once the word is known: a read; a swap that fails; a write or a swap that succeeds, which changes the word; or
+// What an access comes to once the word is known: a read, or a swap that fails; a write, or a swap that succeeds, which changes the word; or
 // one that leaves the word as it was (a silent store).
 pub enum Outcome {
     Reads,
-    Fails,
     Writes,
     Rewrites,
 }
@@ -79,18 +78,15 @@ fn compare_of(a: Access) -> u64
     }
 }
 
-// The outcome of an access that writes or doesn't, whose merge leaves the word as it was or doesn't, and that is a swap or isn't.
-fn outcome_of(writes: bool, same: bool, swap: bool) -> Outcome
-    ensures { λ r. ⌜ r ≡ outcomeOf writes same swap ⌝ }
+// The outcome of an access that writes or doesn't, and whose merge leaves the word as it was or doesn't.
+fn outcome_of(writes: bool, same: bool) -> Outcome
+    ensures { λ r. ⌜ r ≡ outcomeOf writes same ⌝ }
 {
     if writes {
         if same {
             return Outcome::Rewrites;
         }
         return Outcome::Writes;
-    }
-    if swap {
-        return Outcome::Fails;
     }
     Outcome::Reads
 }
@@ -106,7 +102,7 @@ pub fn effect_at(a: Access, w: u64) -> Effect
     let writes = write | swapped;
     let merged = word::merged(mask, w, operand_of(a));
     Effect {
-        outcome: outcome_of(writes, merged == w, swap),
+        outcome: outcome_of(writes, merged == w),
         word: choose::choose_word(writes, merged, w),
         value: choose::choose_word(write, 0, w),
         swapped,

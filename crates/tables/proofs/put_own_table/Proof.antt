@@ -5,10 +5,10 @@ use Rattle.tables.proofs.put_own_table.Statement.{statement}
 use Rattle.tables.proofs.put_own_table.Tie as tie
 
 abbrev Inv-loop : tie.InvT-loop
-Inv-loop k₀ k = k ≤ 224
+Inv-loop k₀ k = k ≤ 168
 
 abbrev μ-loop : tie.MeasureT-loop
-μ-loop k₀ k = 224 - k
+μ-loop k₀ k = 168 - k
 
 pub put-own-table-spec : {M : Type 1} → statement M
 put-own-table-spec =

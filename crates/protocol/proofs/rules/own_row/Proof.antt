@@ -6,9 +6,9 @@ use Rattle.protocol.proofs.Rows.{last}
 use Rattle.protocol.proofs.rules.own_row.Statement.{statement}
 use Rattle.protocol.proofs.rules.own_row.Tie as tie
 
-returns-24 : tie.Need-returns-24
+returns-16 : tie.Need-returns-16
 unfolding ownRowAt ownRow packed pack actNumber outcomeAt modeAt rule code busNumber
-returns-24 c = rw (last _ 23 (c .before .args .n) (c .match .rest) (c .before .pre))
+returns-16 c = rw (last _ 15 (c .before .args .n) (c .match .rest) (c .before .pre))
 
 pub own-row-spec : {M : Type 1} → statement M
 unfolding ownRowAt ownRow packed pack actNumber outcomeAt modeAt rule code busNumber
@@ -17,5 +17,4 @@ own-row-spec =
     (tie.spec (λ c. rw (c .match .keys1)) (λ c. rw (c .match .keys2)) (λ c. rw (c .match .keys3)) (λ c. rw (c .match .keys4))
     (λ c. rw (c .match .keys5)) (λ c. rw (c .match .keys6)) (λ c. rw (c .match .keys7)) (λ c. rw (c .match .keys8)) (λ c. rw (c .match .keys9))
     (λ c. rw (c .match .keys10)) (λ c. rw (c .match .keys11)) (λ c. rw (c .match .keys12)) (λ c. rw (c .match .keys13)) (λ c. rw (c .match .keys14))
-    (λ c. rw (c .match .keys15)) (λ c. rw (c .match .keys16)) (λ c. rw (c .match .keys17)) (λ c. rw (c .match .keys18)) (λ c. rw (c .match .keys19))
-    (λ c. rw (c .match .keys20)) (λ c. rw (c .match .keys21)) (λ c. rw (c .match .keys22)) (λ c. rw (c .match .keys23)) returns-24)
+    (λ c. rw (c .match .keys15)) returns-16)

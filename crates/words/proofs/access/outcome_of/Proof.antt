@@ -10,4 +10,4 @@ returns-2 : tie.Need-returns-2
 returns-2 c = rw (c .before .if1 .taken, c .if2 .left)
 
 pub outcome-of-spec : {M : Type 1} → statement M
-outcome-of-spec = tie.close (tie.spec returns returns-2 (λ c. search needs) (λ c. search needs))
+outcome-of-spec = tie.close (tie.spec returns returns-2 (λ c. search needs))
