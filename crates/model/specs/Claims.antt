@@ -24,7 +24,7 @@ SwappedOnce = (s : Shape) (o : Order) (t : Model) → step s o t .answer .swappe
 
 -- A swap that fails does exactly what a read does, on a hit and on a miss: where a swap answers 'not swapped', the step, answer, memory and tables, is
 -- that of a read by the same port of the same line in the same mode. (Under refusal 2, 3, 12 or 8 it answers so too, and that read is refused
--- likewise. Of a swap with refusal 7, whose mask no read has, nothing is said.)
+-- likewise. Of a swap with refusal 7, which no read has, nothing is said.)
 abbrev pub FailedSwapReads : Type 0
 FailedSwapReads =
     (s : Shape) (t : Model) (i a mask x compare : ℕ) (m : Mode) (swap read : Order)
