@@ -121,17 +121,14 @@ swapped-once s o t = step-fair s o t .0
 pub never-nine : NeverNine
 never-nine s o t = step-fair s o t .1
 
--- What is to hold of a swap's result and a read's: the one is the other, where it answers 'not swapped'. Refusals that come first are the same in both.
+-- What is to hold of a swap's result and a read's: the one is the other, where it answers 'not swapped'. It holds of results by one test if it does
+-- on either side; on that of a refusal the two are the same.
 abbrev AsRead : Result → Result → Type 0
 AsRead r q = r .answer .swapped ≡ 0 → r ≡ q
 
-past-refusal : (b : Bool) (x : Result) {r q : Result} → AsRead r q → AsRead (cond b x r) (cond b x q)
-past-refusal true x f h = refl
-past-refusal false x f h = f h
-
-up-to-refusal : (b : Bool) (x : Result) {r q : Result} → AsRead r q → AsRead (cond b r x) (cond b q x)
-up-to-refusal true x f h = f h
-up-to-refusal false x f h = refl
+either-as-read : (b : Bool) {r q u v : Result} → AsRead r q → AsRead u v → AsRead (cond b r u) (cond b q v)
+either-as-read true f g = f
+either-as-read false f g = g
 
 accessed-as-read : (s : Shape) (t : Model) (i a mask x compare : ℕ) (m : Mode)
     → AsRead (accessed s t i a (Swap mask x compare) m) (accessed s t i a Read m)
@@ -144,12 +141,12 @@ accessed-as-read s t i a mask x compare m h =
 perform-as-read : (s : Shape) (t : Model) (i a mask x compare : ℕ) (m : Mode)
     → AsRead (perform s t (Asked (ByPort (Swap mask x compare) m i) a)) (perform s t (Asked (ByPort Read m i) a))
 unfolding perform called
-perform-as-read s t i a mask x compare m = past-refusal (not (columnSound s t a)) _ (accessed-as-read s t i a mask x compare m)
+perform-as-read s t i a mask x compare m = either-as-read (not (columnSound s t a)) (λ _. refl) (accessed-as-read s t i a mask x compare m)
 
 pub failed-swap-reads : FailedSwapReads
 unfolding step
 failed-swap-reads s t i a mask x compare m swap read ds dr =
-    rw (ds, dr) (up-to-refusal (eqb (lentRefusal s t) 0) _ (perform-as-read s t i a mask x compare m))
+    rw (ds, dr) (either-as-read (eqb (lentRefusal s t) 0) (perform-as-read s t i a mask x compare m) (λ _. refl))
 
 -- An order of any other kind is refused.
 other-kind : (s : Shape) (o : Order) → Is (leb kinds (kindOf o)) → decode s o ≡ Refused 4
