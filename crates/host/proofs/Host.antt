@@ -1,5 +1,5 @@
 -- The bytes of a host against the model that they hold. Assumes nothing.
-use Prim.Native.Nat.{ℕ, zero, suc, _+_, _*_, _<_}
+use Prim.Native.Nat.{ℕ, zero, suc, _+_, _*_}
 use mathlib.Core.Path.{_≡_, refl, sym, ap, _∙_}
 use mathlib.Core.Logic.{_≢_}
 use mathlib.Core.Bool.{Bool, true, false}
@@ -7,7 +7,7 @@ use mathlib.Core.List.{List, [], _∷_}
 use native.Mathlib.Omega.{arith}
 use native.Mathlib.Nat.{mul-zero, mul-suc, add-comm}
 use lib.Dec.{eqb}
-use lib.ListN.{getD, set, length, replicate, replicate-append-replicate}
+use lib.ListN.{set, length, replicate, replicate-append-replicate}
 use borrow.Author.Tests.{eq-eqb, ne-eqb, eqb-true}
 use Rattle.endian.specs.Little.{bytesOf, encoded}
 use Rattle.endian.proofs.Little.{same-bytes}
@@ -25,6 +25,7 @@ use Rattle.words.specs.Bools.{bit}
 use Rattle.ports.specs.Bytes.{Bytes, bytes, modelIn, Fitting}
 use Rattle.ports.proofs.Bytes.{lent, refitted}
 use Rattle.host.specs.Host.{inBytes, hostRefusal, hosted, hostStep, hostFresh, hostAudit}
+use Rattle.host.specs.ReadBack.{AreBytes}
 
 pub fitting : (s : Shape) (b : Bytes) (out : Bool) → hostRefusal s b out ≡ 0 → Fitting s b
 fitting s b out e =
@@ -36,12 +37,8 @@ fitting s b out e =
       filled = record { tags-fit = f .tags-fit; states-fit = f .states-fit; words-fit = f .words-fit };
     }
 
--- Every byte of a slice is below 256.
-abbrev pub AreBytes : List ℕ → Type 0
-AreBytes l = (k : ℕ) → getD l k 0 < 256
-
 -- Fitting bytes, read as a model and put in bytes again, are the same.
-same-lent : {s : Shape} {b : Bytes} → Fitting s b → AreBytes (b .memory) → AreBytes (b .tags) → AreBytes (b .words) → inBytes (modelIn s b) ≡ b
+pub same-lent : {s : Shape} {b : Bytes} → Fitting s b → AreBytes (b .memory) → AreBytes (b .tags) → AreBytes (b .words) → inBytes (modelIn s b) ≡ b
 unfolding inBytes modelIn
 same-lent {s} {b} f m g d =
     rw (

@@ -1,4 +1,5 @@
 -- What the proofs of this crate cite.
 pub mod Host
+pub mod ReadBack
 pub mod Totals
 pub mod Records

@@ -24,7 +24,7 @@ use Rattle.lengths.proofs.Lengths as lengths
 use Rattle.answers.specs.Answers.{answerBytes}
 use Rattle.host.specs.Host.{hostRefusal, Hosted, hosted, hostStep}
 use Rattle.host.specs.Totals.{isRecord, recordRefusal, recordRefused, withRecord, refusalPut, countsIn, hostStepTotals}
-use Rattle.host.proofs.Host.{AreBytes}
+use Rattle.host.specs.ReadBack.{AreBytes}
 
 -- A refusal, put where the slice has its length, or not.
 pub put-fits : (n : ℕ) (out : List ℕ) → length out ≡ 40 → {out' : List ℕ} → out' ≡ answerBytes (refused n) → out' ≡ refusalPut n out

@@ -1,3 +1,4 @@
 -- What a C host sees of the model, and of totals.
 pub mod Host
+pub mod ReadBack
 pub mod Totals
