@@ -26,15 +26,16 @@ use Rattle.protocol.specs.declared.rules.Rule.{Rule}
 use Rattle.protocol.specs.State.{code}
 use Rattle.protocol.specs.Rules.{flushRule, snooped, updates}
 use Rattle.shape.specs.declared.Shape.{Shape}
-use Rattle.shape.specs.Shape.{inRange, entries, tagOf, entryOf}
+use Rattle.shape.specs.Shape.{inRange, entries, fits, rangesEnd, fitRefusal, refusalOf, tagOf, entryOf}
 use Rattle.shape.proofs.Bounds.{tag-small}
 use Rattle.endian.specs.Little.{number, bytesOf, numbers, encoded}
-use Rattle.endian.proofs.Little.{length-numbers, numbers-back, number-fits}
+use Rattle.endian.proofs.Little.{length-numbers, numbers-back, number-fits, number-at}
 use Rattle.ports.specs.Bytes.{Bytes, modelIn}
 use Rattle.model.specs.declared.order.Call.{Call}
 use Rattle.model.specs.declared.order.Call.the-variants.{ByPort, Flush, DeviceRead, DeviceWrite}
 use Rattle.model.specs.declared.order.Decoded.{Decoded}
 use Rattle.model.specs.declared.order.Decoded.the-variants.{Asked, Refused}
+use Rattle.model.specs.declared.answer.Answer.{Answer}
 use Rattle.model.specs.Below.{Lowest, none, number as the-number, lowest, atOr}
 use Rattle.model.specs.Order.{Order, decode, looks}
 use Rattle.model.specs.Tables.{Model, lentRefusal, seen, wordAt, memoryAt, holds, owns, columnSound}
@@ -43,8 +44,10 @@ use Rattle.model.specs.Step.{accessRule, accessed, flushed, deviceWritten, call
 use Rattle.model.specs.Fresh.{fresh, zeroed}
 use Rattle.model.proofs.Decoded.{Sound, decode-sound}
 use Rattle.model.proofs.Lent.{lent-facts}
+use Rattle.counters.proofs.Answers.{step-few}
+use Rattle.answers.specs.Answers.{answerBytes}
 use Rattle.host.specs.Host.{inBytes, hostRefusal}
-use Rattle.host.specs.ReadBack.{AreBytes, OfBytes, Column, Held, ReadBack, LentHolds, StepHolds, FreshHolds}
+use Rattle.host.specs.ReadBack.{AreBytes, OfBytes, Column, Held, ReadBack, LentHolds, answerIn, StepHolds, FreshHolds}
 use Rattle.host.proofs.Host.{fitting, same-lent}
 
 -- A list with a number put stays below a bound that the number is below.
@@ -187,7 +190,7 @@ at-or-fits f x (the-number k) h g = h k
 
 -- What an order leaves and answers.
 abbrev Keeps : Shape → Result → Type 0
-Keeps s r = Held s (r .after) × (r .answer .value < 2 ^ 64)
+Keeps s r = Held s (r .after) × (r .answer .value < 2 ^ 64) × (r .answer .refusal < 13)
 
 module _ (s : Shape) (t : Model) (held : Held s t) where
   word-fits : (a p : ℕ) → wordAt s t a p < 2 ^ 64
@@ -232,13 +235,13 @@ module _ (s : Shape) (t : Model) (held : Held s t) where
   unfolding accessed
   accessed-keeps i a acc m g =
       let e = effect-fits acc (wordFound s t i a) (found-fits i a) in
-      (applied-held i a (accessRule s t i a m (effectAt acc (wordFound s t i a))) _ g (e .0), e .1)
+      (applied-held i a (accessRule s t i a m (effectAt acc (wordFound s t i a))) _ g (e .0), e .1, omega arith)
 
   flushed-keeps : (i a : ℕ) → tagOf s a < 2 ^ 32 → Keeps s (flushed s t i a)
   unfolding flushed
   flushed-keeps i a g =
-      by-cond (Keeps s) (holds s t a i) _ _ (λ _. (applied-held i a (flushRule (seen s t a i)) (wordAt s t a i) g (word-fits a i), omega arith))
-      (λ _. (held, omega arith))
+      by-cond (Keeps s) (holds s t a i) _ _ (λ _. (applied-held i a (flushRule (seen s t a i)) (wordAt s t a i) g (word-fits a i), omega arith, omega arith))
+      (λ _. (held, omega arith, omega arith))
 
   written-keeps : (a mask x : ℕ) → Keeps s (deviceWritten s t a mask x)
   unfolding deviceWritten
@@ -251,24 +254,47 @@ module _ (s : Shape) (t : Model) (held : Held s t) where
       words = held .words;
     },
     omega arith,
+    omega arith,
   )
 
   called-keeps : (c : Call) (a : ℕ) → tagOf s a < 2 ^ 32 → Keeps s (called s t c a)
   unfolding called
   called-keeps (ByPort acc m i) a g = accessed-keeps i a acc m g
   called-keeps (Flush i) a g = flushed-keeps i a g
-  called-keeps DeviceRead a g = (held, held .memory .below a)
+  called-keeps DeviceRead a g = (held, held .memory .below a, omega arith)
   called-keeps (DeviceWrite mask x) a g = written-keeps a mask x
 
   perform-keeps : Is (inRange s) → (d : Decoded) → Sound s d → Keeps s (perform s t d)
   unfolding perform
-  perform-keeps l (Refused n) h = (held, omega arith)
+  perform-keeps l (Refused n) h = (held, omega arith, omega (arith, h))
   perform-keeps l (Asked c a) h =
-      by-cond (Keeps s) (looks c && not (columnSound s t a)) _ _ (λ _. (held, omega arith)) (λ _. called-keeps c a (omega (arith, tag-small s a l (h .1))))
+      by-cond (Keeps s) (looks c && not (columnSound s t a)) _ _ (λ _. (held, omega arith, omega arith)) (λ _. called-keeps c a (omega (arith, tag-small s a l (h .1))))
 
-pub step-holds : StepHolds
+-- Refusals 2, 3 and 12.
+lent-small : (s : Shape) (t : Model) → lentRefusal s t < 13
+unfolding lentRefusal refusalOf fitRefusal
+lent-small s t =
+    by-cond (λ n. n < 13) (inRange s) _ _
+    (λ _. by-cond (λ n. n < 13) (fits s _ _ _ _) _ _ (λ _. by-cond (λ n. n < 13) (rangesEnd s) 0 12 (λ _. omega arith) (λ _. omega arith)) (λ _. omega arith))
+    (λ _. omega arith)
+
+step-keeps : (s : Shape) (o : Order) (t : Model) → Held s t → Keeps s (step s o t)
 unfolding step
-step-holds s o t held =
+step-keeps s o t held =
     by-cond (Keeps s) (eqb (lentRefusal s t) 0) _ _
     (λ z. perform-keeps s t held (lent-facts s t (eqb-true _ _ z) .range) (decode s o) (decode-sound s o))
-    (λ _. (held, omega arith))
+    (λ _. (held, omega arith, lent-small s t))
+
+-- An answer whose five numbers are below 2^64 is read back.
+answer-back : (a : Answer) → a .refusal < 2 ^ 64 → a .value < 2 ^ 64 → a .swapped < 2 ^ 64 → a .reads < 2 ^ 64 → a .writes < 2 ^ 64
+    → answerIn (answerBytes a) ≡ a
+unfolding answerIn answerBytes
+answer-back a f₀ f₁ f₂ f₃ f₄ =
+    let at = number-at 8 (a .refusal ∷ a .value ∷ a .swapped ∷ a .reads ∷ a .writes ∷ []) in
+    rw (at 0 f₀, at 1 f₁, at 2 f₂, at 3 f₃, at 4 f₄)
+
+pub step-holds : StepHolds
+step-holds s o t held =
+    let k = step-keeps s o t held in
+    let few = step-few s o t in
+    (k .0, answer-back (step s o t .answer) (omega (arith, k .2)) (k .1) (omega (arith, few .swapped)) (omega (arith, few .reads)) (omega (arith, few .writes)))

@@ -2,3 +2,4 @@
 pub mod Host
 pub mod ReadBack
 pub mod Totals
+pub mod Calls

@@ -4,10 +4,13 @@ use Prim.Native.Nat.{ℕ, _^_, _<_}
 use mathlib.Core.Path.{_≡_}
 use mathlib.Core.Bool.{true}
 use mathlib.Core.List.{List}
-use lib.ListN.{getD, length}
+use lib.ListN.{getD, length, drop}
+use Rattle.endian.specs.Little.{number}
+use Rattle.answers.specs.Answers.{answerBytes}
 use Rattle.ports.specs.Bytes.{Bytes, modelIn}
 use Rattle.shape.specs.declared.Shape.{Shape}
 use Rattle.shape.specs.Shape.{entries}
+use Rattle.model.specs.declared.answer.Answer.{Answer}
 use Rattle.model.specs.Order.{Order}
 use Rattle.model.specs.Tables.{Model}
 use Rattle.model.specs.Step.{step}
@@ -45,9 +48,20 @@ ReadBack = (s : Shape) (t : Model) → Held s t → (modelIn s (inBytes t) ≡ t
 abbrev pub LentHolds : Type 0
 LentHolds = (s : Shape) (b : Bytes) → OfBytes b → hostRefusal s b true ≡ 0 → Held s (modelIn s b) × (inBytes (modelIn s b) ≡ b)
 
--- Every order leaves such a model, one that is refused too, whatever its word and operand; and the value that it answers is below 2^64.
+-- The five numbers in an answer's 40 bytes.
+unfoldable pub answerIn : List ℕ → Answer
+answerIn out = record {
+  refusal = number 8 out;
+  value = number 8 (drop 8 out);
+  swapped = number 8 (drop 16 out);
+  reads = number 8 (drop 24 out);
+  writes = number 8 (drop 32 out);
+}
+
+-- Every order leaves such a model, one that is refused too, whatever its word and operand; and its answer is read back.
 abbrev pub StepHolds : Type 0
-StepHolds = (s : Shape) (o : Order) (t : Model) → Held s t → Held s (step s o t .after) × (step s o t .answer .value < 2 ^ 64)
+StepHolds =
+    (s : Shape) (o : Order) (t : Model) → Held s t → Held s (step s o t .after) × (answerIn (answerBytes (step s o t .answer)) ≡ step s o t .answer)
 
 -- And so does making a fresh model.
 abbrev pub FreshHolds : Type 0
