@@ -4,3 +4,5 @@ pub mod ReadBack
 pub mod Totals
 pub mod Records
 pub mod Calls
+pub mod Runs
+pub mod Refused

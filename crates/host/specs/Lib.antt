@@ -3,3 +3,4 @@ pub mod Host
 pub mod ReadBack
 pub mod Totals
 pub mod Calls
+pub mod Refused
