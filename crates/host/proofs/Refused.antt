@@ -45,3 +45,46 @@ module _ (s : Shape) (b : Bytes) (of : OfBytes b) where
         (λ z. let e = eqb-true _ 0 z in let w = out-fits s _ _ _ _ wide refl e in
         rw (z, w) (shown-still o wide e))
         (λ z. rw (not-true (eqb (hostRefusal s b wide) 0) z) (λ h. refl))
+
+    -- With a record: refused for what is lent, or by the step.
+    module _ (totals : List ℕ) where
+      abbrev lent-refusal : ℕ
+      lent-refusal = recordRefusal s b out totals
+
+      -- No refusal of what is lent: the slices fit, and the record has room.
+      lent-fits : lent-refusal ≡ 0 → Is (wide && isRecord totals) × (full (totalsIn totals) ≡ false) × (hostRefusal s b (wide && isRecord totals) ≡ 0)
+      unfolding recordRefusal
+      lent-fits z =
+          by-bool (isRecord totals && full (totalsIn totals))
+          (λ f. absurd (let e = rw f at z in omega (arith, e)))
+          (λ f. let e = rw (not-true (isRecord totals && full (totalsIn totals)) f) at z in
+          let w = out-fits s _ _ _ _ (wide && isRecord totals) refl e in
+          (w, not-true (full (totalsIn totals)) (rw (and-r wide (isRecord totals) w) at f), e))
+
+      totals-still : StillTotals b (λ n. refusalPut n out) (λ n. recordRefused n (kindOf o) totals) (hostStepTotals s o b out totals)
+      unfolding hostStepTotals stepTotals refusalPut recordRefused
+      totals-still =
+          by-bool (eqb lent-refusal 0)
+          (λ z. let f = lent-fits (eqb-true _ 0 z) in
+          rw (z, f .1, and-l wide (isRecord totals) (f .0), and-r wide (isRecord totals) (f .0), ne-eqb _ 9 (never-nine s o (modelIn s b)))
+          (λ h. rw (shown-still o (wide && isRecord totals) (f .2) h, ap (λ (r : Result). r .answer) (refused-changes-nothing s o (modelIn s b) h))))
+          (λ z. rw (not-true (eqb lent-refusal 0) z) (λ h. refl))
+
+  fresh-still : Still b (λ n. []) (hostFresh s b)
+  unfolding hostFresh
+  fresh-still =
+      by-bool (eqb (hostRefusal s b true) 0)
+      (λ z. rw z (λ h. absurd (h (eqb-true _ 0 z))))
+      (λ z. rw (not-true (eqb (hostRefusal s b true) 0) z) (λ h. refl))
+
+  audit-still : (verdict : List ℕ) → hostAudit s b verdict .lent ≡ b
+  unfolding hostAudit
+  audit-still verdict = refl
+
+pub host-refused-changes-nothing : HostRefusedChangesNothing
+host-refused-changes-nothing s b of = record {
+  step = step-still s b of;
+  step-totals = totals-still s b of;
+  fresh = fresh-still s b of;
+  audit = audit-still s b of;
+}
