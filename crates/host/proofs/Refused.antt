@@ -20,8 +20,18 @@ use Rattle.counters.specs.Totals.{full, totalsAfter, stepTotals, totalsIn, reco
 use Rattle.host.specs.Host.{inBytes, hostRefusal, Hosted, hosted, hostStep, hostFresh, hostAudit}
 use Rattle.host.specs.ReadBack.{OfBytes}
 use Rattle.host.specs.Totals.{isRecord, recordRefusal, recordRefused, HostedTotals, withRecord, refusalPut, hostStepTotals}
-use Rattle.host.specs.Refused.{Still, StillTotals, HostRefusedChangesNothing}
+use Rattle.host.specs.Refused.{HostRefusedChangesNothing}
 use Rattle.host.proofs.Host.{fitting, same-lent}
+
+-- A call that returns a refusal leaves the bytes b, and the slice that it writes to as `out`.
+abbrev Still : Bytes → (ℕ → List ℕ) → Hosted → Type 0
+Still b out h = h .refusal ≢ 0 → h ≡ hosted (h .refusal) b (out (h .refusal))
+
+-- The same with a record, which it leaves as `totals`.
+abbrev StillTotals : Bytes → (ℕ → List ℕ) → (ℕ → List ℕ) → HostedTotals → Type 0
+StillTotals b out totals h =
+    let n = h .hosted .refusal in
+    n ≢ 0 → h ≡ withRecord (hosted n b (out n)) (totals n)
 
 module _ (s : Shape) (b : Bytes) (of : OfBytes b) where
   -- A step that is refused, in bytes: where the lengths fit, reading them and putting them again changes nothing.
@@ -83,8 +93,13 @@ module _ (s : Shape) (b : Bytes) (of : OfBytes b) where
 
 pub host-refused-changes-nothing : HostRefusedChangesNothing
 host-refused-changes-nothing s b of = record {
-  step = step-still s b of;
-  step-totals = totals-still s b of;
-  fresh = fresh-still s b of;
+  step = λ o out h. let e = step-still s b of o out h in (ap (λ (x : Hosted). x .lent) e, ap (λ (x : Hosted). x .out) e);
+  step-totals = λ o out totals h.
+      let e = totals-still s b of o out totals h in (
+        ap (λ (x : HostedTotals). x .hosted .lent) e,
+        ap (λ (x : HostedTotals). x .hosted .out) e,
+        ap (λ (x : HostedTotals). x .totals) e,
+      );
+  fresh = λ h. ap (λ (x : Hosted). x .lent) (fresh-still s b of h);
   audit = audit-still s b of;
 }
