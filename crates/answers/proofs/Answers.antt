@@ -6,9 +6,9 @@ use native.Mathlib.Omega.{arith}
 use lib.ListN.{getD, set, length}
 use lib.Seq.{sets}
 use Rattle.endian.specs.Little.{numbers, bytesOf, encoded}
-use Rattle.endian.proofs.Little.{number-put, same-bytes}
+use Rattle.endian.proofs.Little.{number-put, same-bytes, number-at}
 use Rattle.model.specs.declared.answer.Answer.{Answer}
-use Rattle.answers.specs.Answers.{answerBytes}
+use Rattle.answers.specs.Answers.{answerBytes, answerIn}
 
 five-set : (x₀ x₁ x₂ x₃ x₄ : ℕ) (m : List ℕ) → set (set (set (set (set (numbers 8 5 m) 0 x₀) 1 x₁) 2 x₂) 3 x₃) 4 x₄
     ≡ x₀ ∷ x₁ ∷ x₂ ∷ x₃ ∷ x₄ ∷ []
@@ -32,3 +32,11 @@ answer-stored a l n f₀ f₁ f₂ f₃ f₄ {l₁} {l₂} {l₃} {l₄} {l₅} 
     ∙ ap (encoded 8) (s₄ .1 ∙ ap (λ (x : List ℕ). set x 4 (a .writes))
     (s₃ .1 ∙ ap (λ (x : List ℕ). set x 3 (a .reads)) (s₂ .1 ∙ ap (λ (x : List ℕ). set x 2 (a .swapped)) (s₁ .1
     ∙ ap (λ (x : List ℕ). set x 1 (a .value)) (s₀ .1)))) ∙ five-set (a .refusal) (a .value) (a .swapped) (a .reads) (a .writes) l)
+
+-- An answer whose five numbers are below 2^64 is read back.
+pub answer-back : (a : Answer) → a .refusal < 2 ^ 64 → a .value < 2 ^ 64 → a .swapped < 2 ^ 64 → a .reads < 2 ^ 64 → a .writes < 2 ^ 64
+    → answerIn (answerBytes a) ≡ a
+unfolding answerIn answerBytes
+answer-back a f₀ f₁ f₂ f₃ f₄ =
+    let at = number-at 8 (a .refusal ∷ a .value ∷ a .swapped ∷ a .reads ∷ a .writes ∷ []) in
+    rw (at 0 f₀, at 1 f₁, at 2 f₂, at 3 f₃, at 4 f₄)

@@ -5,7 +5,7 @@ use mathlib.Core.Bool.{true}
 use mathlib.Core.List.{List, [], _∷_, map}
 use native.Mathlib.Omega.{arith}
 use lib.ListN.{getD, length, length-map}
-use borrow.Author.Tests.{eq-eqb}
+use borrow.Author.Tests.{eq-eqb, ne-eqb}
 use Rattle.words.proofs.Bools.{Is}
 use Rattle.endian.proofs.Little.{length-numbers}
 use Rattle.ports.specs.Bytes.{bytes, modelIn}
@@ -25,7 +25,7 @@ use Rattle.letters.specs.declared.Converted.the-variants.{To}
 use Rattle.letters.specs.Letters.{letterOf, converted, byteFrom}
 use Rattle.edition.specs.Convert.{Tables, tables, fit, conversionRefusal, moved, conversion, convert}
 use Rattle.edition.specs.Rules.{keepsRules}
-use Rattle.edition.specs.Claims.{ThereAndBack, oldIn, AuditAgrees, KeptConverts}
+use Rattle.edition.specs.Claims.{ThereAndBack, oldIn, AuditAgrees, KeptConverts, RefusedConvertsNothing}
 use Rattle.letters.specs.Claims.{Becomes, otherWay}
 use Rattle.letters.proofs.Letters.{returns-byte, old-not-through}
 use Rattle.edition.proofs.Loops.{get-map}
@@ -104,3 +104,7 @@ kept-converts s memory t out r f g h =
     let e = tables-fitting s _ _ _ f .1 in
     let all : AllBecome ToNew (t .states) = λ k p. (kept-small s (oldIn s memory t) h k (rw e at p), old-not-through _) in
     rw (r, f, g, none-refused ToNew (t .states) all) refl
+
+pub refused-converts-nothing : RefusedConvertsNothing
+unfolding convert
+refused-converts-nothing way s t out h = rw (ne-eqb (conversionRefusal way s t out) 0 h)

@@ -1,6 +1,7 @@
 -- What is proved of the conversion beside its definition. The proofs are in proofs/Claims.antt.
 use Prim.Native.Nat.{ℕ}
 use mathlib.Core.Path.{_≡_}
+use mathlib.Core.Logic.{_≢_}
 use mathlib.Core.Bool.{true}
 use mathlib.Core.List.{List}
 use Rattle.endian.specs.Little.{numbers}
@@ -39,3 +40,7 @@ abbrev pub KeptConverts : Type 0
 KeptConverts =
     (s : Shape) (memory : List ℕ) (t out : Tables) → inRange s ≡ true → fit s t ≡ true → fit s out ≡ true
     → keepsRules s (oldIn s memory t) ≡ true → convert ToNew s t out .refusal ≡ 0
+
+-- A refused conversion leaves the output tables as they were. (The tables that it reads it cannot write to.)
+abbrev pub RefusedConvertsNothing : Type 0
+RefusedConvertsNothing = (way : Way) (s : Shape) (t out : Tables) → convert way s t out .refusal ≢ 0 → convert way s t out .out ≡ out

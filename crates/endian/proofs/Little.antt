@@ -210,3 +210,27 @@ number-fits (suc w) bs h =
     let b : getD bs 0 0 < 256 = h 0 in
     let r : number w (drop 1 bs) < 256 ^ w = number-fits w (drop 1 bs) (λ k. rw (getD-drop 1 bs k 0) (h (1 + k))) in
     omega (arith, pow-add 256 1 w)
+
+-- And so is each number of a list of them.
+pub numbers-fit : (w n : ℕ) (bs : List ℕ) → ((k : ℕ) → getD bs k 0 < 256) → (k : ℕ) → getD (numbers w n bs) k 0 < 256 ^ w
+unfolding numbers
+numbers-fit w zero bs h k = omega (arith, number-fits w bs h)
+numbers-fit w (suc n) bs h zero = number-fits w bs h
+numbers-fit w (suc n) bs h (suc k) = numbers-fit w n (drop w bs) (λ j. rw (getD-drop w bs j 0) (h (w + j))) k
+
+-- What is written is bytes.
+append-bytes : (l r : List ℕ) → ((k : ℕ) → getD l k 0 < 256) → ((k : ℕ) → getD r k 0 < 256) → (k : ℕ) → getD (l ++ r) k 0 < 256
+append-bytes [] r f g k = g k
+append-bytes (x ∷ l) r f g zero = f zero
+append-bytes (x ∷ l) r f g (suc k) = append-bytes l r (λ j. f (suc j)) g k
+
+number-bytes : (w x : ℕ) → (k : ℕ) → getD (bytesOf w x) k 0 < 256
+unfolding bytesOf
+number-bytes zero x k = omega arith
+number-bytes (suc w) x zero = omega arith
+number-bytes (suc w) x (suc k) = number-bytes w (x / 256) k
+
+pub encoded-bytes : (w : ℕ) (l : List ℕ) → (k : ℕ) → getD (encoded w l) k 0 < 256
+unfolding encoded
+encoded-bytes w [] k = omega arith
+encoded-bytes w (x ∷ l) k = append-bytes (bytesOf w x) (encoded w l) (number-bytes w x) (encoded-bytes w l) k

@@ -22,7 +22,7 @@ use Rattle.model.specs.Fresh.{fresh}
 use Rattle.model.specs.Audit.{audit}
 use Rattle.model.specs.Marks.{modelRun}
 use Rattle.host.specs.Host.{inBytes, hostRefusal, Hosted, hosted, hostStep, hostFresh, hostAudit}
-use Rattle.host.specs.ReadBack.{OfBytes, Held, answerIn}
+use Rattle.host.specs.ReadBack.{Held}
 use Rattle.host.specs.Calls.{StepCall, plain, counted, orderOf, ordersOf, callOn, HasRoom, AllRoom, bytesAfter, Lendable, IsStep, CallIsStep, CallsAreRun}
 use Rattle.host.specs.Calls.{FreshIsFresh, AuditIsAudit}
 use Rattle.host.proofs.Host.{fitting}

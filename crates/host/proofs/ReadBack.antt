@@ -4,38 +4,33 @@ use mathlib.Core.Path.{_≡_, refl, sym, ap, _∙_}
 use mathlib.Core.Bool.{Bool, true, false, cond, _&&_, not}
 use mathlib.Core.List.{List, [], _∷_, _++_}
 use native.Mathlib.Omega.{arith}
-use native.Mathlib.Nat.{mul-le-mul-right, mul-suc, add-comm}
-use lib.Pow.{pow-add}
 use lib.Dec.{eqb}
 use lib.ListN.{getD, set, length, drop, replicate, length-set, length-replicate}
-use lib.Seq.{getD-drop}
 use borrow.Author.Tests.{eqb-true}
-use Rattle.words.specs.Word.{byteOf, bitOf, mergeLow, merge, half}
+use Rattle.words.specs.Word.{merge, half}
 use Rattle.words.specs.declared.access.Access.{Access}
 use Rattle.words.specs.declared.access.Access.the-variants.{Read, Write, Swap}
 use Rattle.words.specs.declared.access.Effect.{Effect}
 use Rattle.words.specs.Access.{effectAt, reading, writing}
-use Rattle.words.proofs.Bools.{Is, by-bool, by-cond}
+use Rattle.words.proofs.Bools.{Is, by-cond}
+use Rattle.words.proofs.Merge.{merge-fits}
 use Rattle.protocol.specs.declared.state.Mode.{Mode}
-use Rattle.protocol.specs.declared.state.Mode.the-variants.{Through, Back}
-use Rattle.protocol.specs.declared.state.State.{State}
-use Rattle.protocol.specs.declared.state.State.the-variants.{I, S, E, O, M}
 use Rattle.protocol.specs.declared.rules.Bus.{Bus}
 use Rattle.protocol.specs.declared.rules.Bus.the-variants.{Invalidate}
 use Rattle.protocol.specs.declared.rules.Rule.{Rule}
-use Rattle.protocol.specs.State.{code}
 use Rattle.protocol.specs.Rules.{flushRule, snooped, updates}
+use Rattle.protocol.proofs.States.{code-small}
 use Rattle.shape.specs.declared.Shape.{Shape}
 use Rattle.shape.specs.Shape.{inRange, entries, fits, rangesEnd, fitRefusal, refusalOf, tagOf, entryOf}
 use Rattle.shape.proofs.Bounds.{tag-small}
-use Rattle.endian.specs.Little.{number, bytesOf, numbers, encoded}
-use Rattle.endian.proofs.Little.{length-numbers, numbers-back, number-fits, number-at}
+use Rattle.endian.specs.Little.{numbers, encoded}
+use Rattle.endian.proofs.Little.{length-numbers, numbers-back, numbers-fit, encoded-bytes}
+use Rattle.answers.proofs.Answers.{answer-back}
 use Rattle.ports.specs.Bytes.{Bytes, modelIn}
 use Rattle.model.specs.declared.order.Call.{Call}
 use Rattle.model.specs.declared.order.Call.the-variants.{ByPort, Flush, DeviceRead, DeviceWrite}
 use Rattle.model.specs.declared.order.Decoded.{Decoded}
 use Rattle.model.specs.declared.order.Decoded.the-variants.{Asked, Refused}
-use Rattle.model.specs.declared.answer.Answer.{Answer}
 use Rattle.model.specs.Below.{Lowest, none, number as the-number, lowest, atOr}
 use Rattle.model.specs.Order.{Order, decode, looks}
 use Rattle.model.specs.Tables.{Model, lentRefusal, seen, wordAt, memoryAt, holds, owns, columnSound}
@@ -45,9 +40,8 @@ use Rattle.model.specs.Fresh.{fresh, zeroed}
 use Rattle.model.proofs.Decoded.{Sound, decode-sound}
 use Rattle.model.proofs.Lent.{lent-facts}
 use Rattle.counters.proofs.Answers.{step-few}
-use Rattle.answers.specs.Answers.{answerBytes}
 use Rattle.host.specs.Host.{inBytes, hostRefusal}
-use Rattle.host.specs.ReadBack.{AreBytes, OfBytes, Column, Held, ReadBack, LentHolds, answerIn, StepHolds, FreshHolds}
+use Rattle.host.specs.ReadBack.{AreBytes, OfBytes, Column, Held, ReadBack, LentHolds, StepHolds, FreshHolds}
 use Rattle.host.proofs.Host.{fitting, same-lent}
 
 -- A list with a number put stays below a bound that the number is below.
@@ -82,30 +76,8 @@ column-zeros n m h = record { count = length-replicate n 0; below = zeros-below 
 column-back : (w n : ℕ) {l : List ℕ} → Column n (256 ^ w) l → numbers w n (encoded w l) ≡ l
 column-back w n {l} c = ap (λ (k : ℕ). numbers w k (encoded w l)) (sym (c .count)) ∙ numbers-back w l (c .below)
 
-numbers-below : (w n : ℕ) (bs : List ℕ) → AreBytes bs → (k : ℕ) → getD (numbers w n bs) k 0 < 256 ^ w
-unfolding numbers
-numbers-below w zero bs h k = omega (arith, number-fits w bs h)
-numbers-below w (suc n) bs h zero = number-fits w bs h
-numbers-below w (suc n) bs h (suc k) = numbers-below w n (drop w bs) (λ j. rw (getD-drop w bs j 0) (h (w + j))) k
-
 column-numbers : (w n : ℕ) (bs : List ℕ) → AreBytes bs → Column n (256 ^ w) (numbers w n bs)
-column-numbers w n bs h = record { count = length-numbers w n bs; below = numbers-below w n bs h }
-
-append-bytes : (l r : List ℕ) → AreBytes l → AreBytes r → AreBytes (l ++ r)
-append-bytes [] r f g k = g k
-append-bytes (x ∷ l) r f g zero = f zero
-append-bytes (x ∷ l) r f g (suc k) = append-bytes l r (λ j. f (suc j)) g k
-
-number-bytes : (w x : ℕ) → AreBytes (bytesOf w x)
-unfolding bytesOf
-number-bytes zero x k = omega arith
-number-bytes (suc w) x zero = omega arith
-number-bytes (suc w) x (suc k) = number-bytes w (x / 256) k
-
-encoded-bytes : (w : ℕ) (l : List ℕ) → AreBytes (encoded w l)
-unfolding encoded
-encoded-bytes w [] k = omega arith
-encoded-bytes w (x ∷ l) k = append-bytes (bytesOf w x) (encoded w l) (number-bytes w x) (encoded-bytes w l) k
+column-numbers w n bs h = record { count = length-numbers w n bs; below = numbers-fit w n bs h }
 
 pub read-back : ReadBack
 unfolding modelIn inBytes
@@ -144,25 +116,7 @@ fresh-holds s t held =
     })
     (λ _. held)
 
--- What a merge gives is a word, whatever is merged; and so is what an access leaves and answers at a word.
-byte-fits : (b : Bool) (x w : ℕ) → cond b (x % 256) (w % 256) < 256
-byte-fits true x w = omega arith
-byte-fits false x w = omega arith
-
-low-fits : (k mask w x : ℕ) → mergeLow k mask w x < 2 ^ (8 * k)
-unfolding mergeLow
-low-fits zero mask w x = omega arith
-low-fits (suc k) mask w x =
-    let c = cond (eqb (bitOf mask k) 1) (byteOf x k) (byteOf w k) in
-    let small : c < 256 = byte-fits (eqb (bitOf mask k) 1) (x / 2 ^ (8 * k)) (w / 2 ^ (8 * k)) in
-    let most : c * 2 ^ (8 * k) ≤ 255 * 2 ^ (8 * k) = mul-le-mul-right (2 ^ (8 * k)) (omega arith) in
-    let next : 2 ^ (8 * suc k) ≡ 2 ^ 8 * 2 ^ (8 * k) = ap (λ (n : ℕ). 2 ^ n) (mul-suc 8 k ∙ add-comm (8 * k) 8) ∙ pow-add 2 8 (8 * k) in
-    rw next (omega (arith, low-fits k mask w x))
-
-merge-fits : (mask w x : ℕ) → merge mask w x < 2 ^ 64
-unfolding merge
-merge-fits mask w x = low-fits 8 mask w x
-
+-- What an access leaves and answers at a word is a word.
 abbrev EffectFits : Effect → Type 0
 EffectFits e = (e .word < 2 ^ 64) × (e .value < 2 ^ 64)
 
@@ -172,16 +126,6 @@ effect-fits Read w h = (h, h)
 effect-fits (Write mask x) w h = (merge-fits mask w x, omega arith)
 effect-fits (Swap mask x compare) w h =
     by-cond EffectFits (eqb (half mask w) compare) (writing w (merge mask w x) w true) (reading w) (λ _. (merge-fits mask w x, h)) (λ _. (h, h))
-
-code-fits : (x : State) → code x < 256
-unfolding code
-code-fits I = omega arith
-code-fits (S Through) = omega arith
-code-fits (S Back) = omega arith
-code-fits (E Through) = omega arith
-code-fits (E Back) = omega arith
-code-fits O = omega arith
-code-fits M = omega arith
 
 at-or-fits : (f : ℕ → ℕ) (x : ℕ) (l : Lowest) → ((k : ℕ) → f k < 2 ^ 64) → x < 2 ^ 64 → atOr f x l < 2 ^ 64
 unfolding atOr
@@ -208,7 +152,7 @@ module _ (s : Shape) (t : Model) (held : Held s t) where
   byte-answers : (a : ℕ) (asked : ℕ → Bool) (b : Bus) (p : ℕ) → byteAnswered s t a asked b p < 256
   unfolding byteAnswered
   byte-answers a asked b p =
-      by-cond (λ x. x < 256) (asked p) _ _ (λ _. code-fits (snooped b (seen s t a p))) (λ _. held .states .below (entryOf s a p))
+      by-cond (λ x. x < 256) (asked p) _ _ (λ _. omega (arith, code-small (snooped b (seen s t a p)))) (λ _. held .states .below (entryOf s a p))
 
   word-answers : (a : ℕ) (asked : ℕ → Bool) (b : Bus) (w : ℕ) → w < 2 ^ 64 → (p : ℕ) → wordAnswered s t a asked b w p < 2 ^ 64
   unfolding wordAnswered
@@ -216,7 +160,7 @@ module _ (s : Shape) (t : Model) (held : Held s t) where
 
   byte-after : (i a : ℕ) (r : Rule) (p : ℕ) → byteAfter s t i a r p < 256
   unfolding byteAfter
-  byte-after i a r p = by-cond (λ x. x < 256) (eqb p i) _ _ (λ _. code-fits (r .own)) (λ _. byte-answers a (holds s t a) (r .bus) p)
+  byte-after i a r p = by-cond (λ x. x < 256) (eqb p i) _ _ (λ _. omega (arith, code-small (r .own))) (λ _. byte-answers a (holds s t a) (r .bus) p)
 
   word-after : (i a : ℕ) (r : Rule) (w : ℕ) → w < 2 ^ 64 → (p : ℕ) → wordAfter s t i a r w p < 2 ^ 64
   unfolding wordAfter
@@ -284,14 +228,6 @@ step-keeps s o t held =
     by-cond (Keeps s) (eqb (lentRefusal s t) 0) _ _
     (λ z. perform-keeps s t held (lent-facts s t (eqb-true _ _ z) .range) (decode s o) (decode-sound s o))
     (λ _. (held, omega arith, lent-small s t))
-
--- An answer whose five numbers are below 2^64 is read back.
-answer-back : (a : Answer) → a .refusal < 2 ^ 64 → a .value < 2 ^ 64 → a .swapped < 2 ^ 64 → a .reads < 2 ^ 64 → a .writes < 2 ^ 64
-    → answerIn (answerBytes a) ≡ a
-unfolding answerIn answerBytes
-answer-back a f₀ f₁ f₂ f₃ f₄ =
-    let at = number-at 8 (a .refusal ∷ a .value ∷ a .swapped ∷ a .reads ∷ a .writes ∷ []) in
-    rw (at 0 f₀, at 1 f₁, at 2 f₂, at 3 f₃, at 4 f₄)
 
 pub step-holds : StepHolds
 step-holds s o t held =

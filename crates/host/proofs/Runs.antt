@@ -31,7 +31,7 @@ use Rattle.model.proofs.Marks.{mark-says}
 use Rattle.model.proofs.Device.{mark-clear, device-guarantee, device-write-seen}
 use Rattle.model.proofs.InRanges.{device-range-clean}
 use Rattle.host.specs.Host.{inBytes, Hosted, hosted, hostRefusal, hostFresh, hostAudit}
-use Rattle.host.specs.ReadBack.{OfBytes, answerIn}
+use Rattle.host.specs.ReadBack.{OfBytes}
 use Rattle.host.specs.Calls.{StepCall, orderOf, ordersOf, callOn, HasRoom, AllRoom, bytesAfter, Lendable, AuditsYes, HostAgreesOver, flatOf, FreshRun}
 use Rattle.host.specs.Calls.{HostAgreement, HostAuditedAgreement, bytesNow, flatNow, DeviceReads, HostMarkSays, HostDeviceGuarantee}
 use Rattle.host.specs.Calls.{HostDeviceRangeClean, HostDeviceWriteSeen}

@@ -9,7 +9,7 @@ use lib.ListN.{length}
 use Rattle.words.specs.Bools.{bit}
 use Rattle.words.specs.Word.{merge}
 use Rattle.endian.specs.Little.{numbers}
-use Rattle.answers.specs.Answers.{answerBytes}
+use Rattle.answers.specs.Answers.{answerBytes, answerIn}
 use Rattle.ports.specs.Bytes.{Bytes, modelIn}
 use Rattle.shape.specs.declared.Shape.{Shape}
 use Rattle.shape.specs.Range.{IsIn}
@@ -24,7 +24,7 @@ use Rattle.model.specs.Agreement.{Agrees, Fits}
 use Rattle.model.specs.Marks.{SetSince, eventsOf, flatRun, modelRun, isReadOf, leftAlone}
 use Rattle.counters.specs.Totals.{full, recordLength, totalsIn}
 use Rattle.host.specs.Host.{hostRefusal, Hosted, hosted, hostStep, hostFresh, hostAudit}
-use Rattle.host.specs.ReadBack.{OfBytes, answerIn}
+use Rattle.host.specs.ReadBack.{OfBytes}
 use Rattle.host.specs.Totals.{hostStepTotals}
 
 -- A call: `moesi_step` with an order and the slice for its answer; or `moesi_step_totals`, with a record of totals besides.

@@ -4,13 +4,11 @@ use Prim.Native.Nat.{ℕ, _^_, _<_}
 use mathlib.Core.Path.{_≡_}
 use mathlib.Core.Bool.{true}
 use mathlib.Core.List.{List}
-use lib.ListN.{getD, length, drop}
-use Rattle.endian.specs.Little.{number}
-use Rattle.answers.specs.Answers.{answerBytes}
+use lib.ListN.{getD, length}
+use Rattle.answers.specs.Answers.{answerBytes, answerIn}
 use Rattle.ports.specs.Bytes.{Bytes, modelIn}
 use Rattle.shape.specs.declared.Shape.{Shape}
 use Rattle.shape.specs.Shape.{entries}
-use Rattle.model.specs.declared.answer.Answer.{Answer}
 use Rattle.model.specs.Order.{Order}
 use Rattle.model.specs.Tables.{Model}
 use Rattle.model.specs.Step.{step}
@@ -47,16 +45,6 @@ ReadBack = (s : Shape) (t : Model) → Held s t → (modelIn s (inBytes t) ≡ t
 -- Lent bytes that are not refused hold such a model, and put in bytes again it is those bytes.
 abbrev pub LentHolds : Type 0
 LentHolds = (s : Shape) (b : Bytes) → OfBytes b → hostRefusal s b true ≡ 0 → Held s (modelIn s b) × (inBytes (modelIn s b) ≡ b)
-
--- The five numbers in an answer's 40 bytes.
-unfoldable pub answerIn : List ℕ → Answer
-answerIn out = record {
-  refusal = number 8 out;
-  value = number 8 (drop 8 out);
-  swapped = number 8 (drop 16 out);
-  reads = number 8 (drop 24 out);
-  writes = number 8 (drop 32 out);
-}
 
 -- Every order leaves such a model, one that is refused too, whatever its word and operand; and its answer is read back.
 abbrev pub StepHolds : Type 0

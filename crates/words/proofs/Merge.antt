@@ -1,11 +1,12 @@
 -- A merge, byte by byte. Assumes nothing.
-use Prim.Native.Nat.{ℕ, _+_, _*_, _/_, _%_, _^_, _<_}
-use mathlib.Core.Bool.{cond}
-use mathlib.Core.Path.{_≡_, refl, _∙_}
+use Prim.Native.Nat.{ℕ, zero, suc, _+_, _*_, _/_, _%_, _^_, _<_, _≤_}
+use mathlib.Core.Bool.{Bool, true, false, cond}
+use mathlib.Core.Path.{_≡_, refl, ap, _∙_}
 use native.Mathlib.Omega.{arith}
 use lib.Dec.{eqb}
-use native.Mathlib.Nat.{div-one, zero-add, mul-one}
-use Rattle.words.specs.Word.{merge, mergeLow}
+use lib.Pow.{pow-add}
+use native.Mathlib.Nat.{div-one, zero-add, mul-one, mul-le-mul-right, mul-suc, add-comm}
+use Rattle.words.specs.Word.{byteOf, bitOf, mergeLow, merge}
 
 low : (mask w x : ℕ) → mergeLow 1 mask w x ≡ cond (eqb (mask % 2) 1) (x % 256) (w % 256)
 unfolding mergeLow
@@ -39,3 +40,22 @@ merge-full mask w x e h =
     (x / 16777216 % 256) (x / 4294967296 % 256) (x / 1099511627776 % 256) (x / 281474976710656 % 256) (x / 72057594037927936 % 256)
     (omega arith) (omega arith) (omega arith) (omega arith) (omega arith) (omega arith) (omega arith) (omega arith)
     ∙ merge-is 255 w x refl refl refl refl refl refl refl refl)
+
+-- What a merge gives is below 2^64, whatever is merged.
+byte-fits : (b : Bool) (x w : ℕ) → cond b (x % 256) (w % 256) < 256
+byte-fits true x w = omega arith
+byte-fits false x w = omega arith
+
+low-fits : (k mask w x : ℕ) → mergeLow k mask w x < 2 ^ (8 * k)
+unfolding mergeLow
+low-fits zero mask w x = omega arith
+low-fits (suc k) mask w x =
+    let c = cond (eqb (bitOf mask k) 1) (byteOf x k) (byteOf w k) in
+    let small : c < 256 = byte-fits (eqb (bitOf mask k) 1) (x / 2 ^ (8 * k)) (w / 2 ^ (8 * k)) in
+    let most : c * 2 ^ (8 * k) ≤ 255 * 2 ^ (8 * k) = mul-le-mul-right (2 ^ (8 * k)) (omega arith) in
+    let next : 2 ^ (8 * suc k) ≡ 2 ^ 8 * 2 ^ (8 * k) = ap (λ (n : ℕ). 2 ^ n) (mul-suc 8 k ∙ add-comm (8 * k) 8) ∙ pow-add 2 8 (8 * k) in
+    rw next (omega (arith, low-fits k mask w x))
+
+pub merge-fits : (mask w x : ℕ) → merge mask w x < 2 ^ 64
+unfolding merge
+merge-fits mask w x = low-fits 8 mask w x
