@@ -1,0 +1,2 @@
+-- What is proved of all entry points together.
+pub mod Refused
