@@ -1,19 +1,20 @@
 -- A call is a step, and a list of calls a run; fresh and the audit likewise. Assumes nothing.
 use Prim.Native.Nat.{ℕ, _*_}
 use mathlib.Core.Path.{_≡_, refl, sym, ap, _∙_}
-use mathlib.Core.Bool.{Bool, true, not}
+use mathlib.Core.Bool.{Bool, true}
 use mathlib.Core.List.{List, [], _∷_}
 use lib.Dec.{eqb}
 use lib.ListN.{length}
-use borrow.Author.Tests.{eq-eqb, eqb-true, eqb-false, not-true}
+use borrow.Author.Tests.{eq-eqb, eqb-true, not-true}
 use Rattle.words.proofs.Bools.{by-bool}
-use Rattle.words.specs.Bools.{bit}
 use Rattle.endian.proofs.Little.{length-encoded}
 use Rattle.lengths.specs.Lengths.{refusalBy}
+use Rattle.lengths.proofs.Lengths.{refused-apart}
 use Rattle.answers.specs.Answers.{answerBytes}
 use Rattle.ports.specs.Bytes.{Bytes, modelIn}
+use Rattle.ports.proofs.Bytes.{lent}
 use Rattle.shape.specs.declared.Shape.{Shape}
-use Rattle.shape.specs.Shape.{entries}
+use Rattle.shape.specs.Shape.{withoutRanges, rangesEnd}
 use Rattle.model.specs.declared.answer.Answer.{Answer}
 use Rattle.model.specs.Order.{Order}
 use Rattle.model.specs.Tables.{Model}
@@ -21,10 +22,11 @@ use Rattle.model.specs.Step.{step}
 use Rattle.model.specs.Fresh.{fresh}
 use Rattle.model.specs.Audit.{audit}
 use Rattle.model.specs.Marks.{modelRun}
+use Rattle.model.proofs.InRanges.{ranges-apart}
 use Rattle.host.specs.Host.{inBytes, hostRefusal, Hosted, hosted, hostStep, hostFresh, hostAudit}
 use Rattle.host.specs.ReadBack.{Held}
 use Rattle.host.specs.Calls.{StepCall, plain, counted, orderOf, ordersOf, callOn, HasRoom, AllRoom, bytesAfter, Lendable, IsStep, CallIsStep, CallsAreRun}
-use Rattle.host.specs.Calls.{FreshIsFresh, AuditIsAudit}
+use Rattle.host.specs.Calls.{FreshIsFresh, AuditIsAudit, HostRangesApart}
 use Rattle.host.proofs.Host.{fitting}
 use Rattle.host.proofs.ReadBack.{read-back, lent-holds, step-holds, fresh-holds}
 use Rattle.host.proofs.Records.{record-beside}
@@ -116,3 +118,34 @@ fresh-is-fresh s b of e =
 pub audit-is-audit : AuditIsAudit
 unfolding hostAudit
 audit-is-audit s b lend verdict h = rw (eq-eqb (length verdict) 1 h, lend .accepted)
+
+-- With ranges and without.
+module _ (s : Shape) (b : Bytes) (ends : rangesEnd s ≡ true) where
+  apart : (out : Bool) → hostRefusal s b out ≡ hostRefusal (withoutRanges s) b out
+  apart out = refused-apart s _ _ _ _ out ends
+
+  same-model : modelIn s b ≡ modelIn (withoutRanges s) b
+  unfolding modelIn
+  same-model = refl
+
+  same-tables : (out : Bool) → hostRefusal s b out ≡ 0
+      → (fresh s (modelIn s b) ≡ fresh (withoutRanges s) (modelIn (withoutRanges s) b)) × (audit s (modelIn s b) ≡ audit (withoutRanges s) (modelIn (withoutRanges s) b))
+  same-tables out z = rw (← same-model) (ranges-apart s (modelIn s b) (lent (fitting s b out z)))
+
+  fresh-apart : hostFresh s b ≡ hostFresh (withoutRanges s) b
+  unfolding hostFresh
+  fresh-apart =
+      by-bool (eqb (hostRefusal s b true) 0)
+      (λ z. rw (← apart true, z, same-tables true (eqb-true _ 0 z) .0))
+      (λ z. rw (← apart true, not-true (eqb (hostRefusal s b true) 0) z))
+
+  audit-apart : (verdict : List ℕ) → hostAudit s b verdict ≡ hostAudit (withoutRanges s) b verdict
+  unfolding hostAudit
+  audit-apart verdict =
+      let wide = eqb (length verdict) 1 in
+      by-bool (eqb (hostRefusal s b wide) 0)
+      (λ z. rw (← apart wide, z, same-tables wide (eqb-true _ 0 z) .1))
+      (λ z. rw (← apart wide, not-true (eqb (hostRefusal s b wide) 0) z))
+
+pub host-ranges-apart : HostRangesApart
+host-ranges-apart s b ends = (fresh-apart s b ends, audit-apart s b ends)

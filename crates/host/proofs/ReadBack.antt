@@ -1,11 +1,11 @@
 -- Models that have room in their bytes: they are read back, and every order and making a fresh model keep them so. Assumes nothing.
-use Prim.Native.Nat.{ℕ, zero, suc, _*_, _/_, _%_, _+_, _^_, _<_, _≤_}
-use mathlib.Core.Path.{_≡_, refl, sym, ap, _∙_}
-use mathlib.Core.Bool.{Bool, true, false, cond, _&&_, not}
-use mathlib.Core.List.{List, [], _∷_, _++_}
+use Prim.Native.Nat.{ℕ, zero, suc, _^_, _<_}
+use mathlib.Core.Path.{_≡_, sym, ap, _∙_}
+use mathlib.Core.Bool.{Bool, true, false, _&&_, not}
+use mathlib.Core.List.{List, [], _∷_}
 use native.Mathlib.Omega.{arith}
 use lib.Dec.{eqb}
-use lib.ListN.{getD, set, length, drop, replicate, length-set, length-replicate}
+use lib.ListN.{getD, set, replicate, length-set, length-replicate}
 use borrow.Author.Tests.{eqb-true}
 use Rattle.words.specs.Word.{merge, half}
 use Rattle.words.specs.declared.access.Access.{Access}
@@ -26,7 +26,7 @@ use Rattle.shape.proofs.Bounds.{tag-small}
 use Rattle.endian.specs.Little.{numbers, encoded}
 use Rattle.endian.proofs.Little.{length-numbers, numbers-back, numbers-fit, encoded-bytes}
 use Rattle.answers.proofs.Answers.{answer-back}
-use Rattle.ports.specs.Bytes.{Bytes, modelIn}
+use Rattle.ports.specs.Bytes.{modelIn}
 use Rattle.model.specs.declared.order.Call.{Call}
 use Rattle.model.specs.declared.order.Call.the-variants.{ByPort, Flush, DeviceRead, DeviceWrite}
 use Rattle.model.specs.declared.order.Decoded.{Decoded}
@@ -40,8 +40,8 @@ use Rattle.model.specs.Fresh.{fresh, zeroed}
 use Rattle.model.proofs.Decoded.{Sound, decode-sound}
 use Rattle.model.proofs.Lent.{lent-facts}
 use Rattle.counters.proofs.Answers.{step-few}
-use Rattle.host.specs.Host.{inBytes, hostRefusal}
-use Rattle.host.specs.ReadBack.{AreBytes, OfBytes, Column, Held, ReadBack, LentHolds, StepHolds, FreshHolds}
+use Rattle.host.specs.Host.{inBytes}
+use Rattle.host.specs.ReadBack.{AreBytes, Column, Held, ReadBack, LentHolds, StepHolds, FreshHolds}
 use Rattle.host.proofs.Host.{fitting, same-lent}
 
 -- A list with a number put stays below a bound that the number is below.

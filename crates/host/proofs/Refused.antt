@@ -1,27 +1,27 @@
 -- A refused call changes nothing. Assumes nothing.
 use Prim.Native.Nat.{ℕ}
-use mathlib.Core.Path.{_≡_, refl, sym, ap, _∙_}
+use mathlib.Core.Path.{_≡_, refl, ap, _∙_}
 use mathlib.Core.Logic.{_≢_}
-use mathlib.Core.Bool.{Bool, true, false, _&&_, not}
+use mathlib.Core.Bool.{Bool, true, false, _&&_}
 use mathlib.Core.List.{List, []}
 use native.Mathlib.Omega.{arith}
 use lib.Dec.{eqb}
 use lib.ListN.{length}
-use borrow.Author.Tests.{eqb-true, eqb-false, ne-eqb, not-true}
+use borrow.Author.Tests.{eqb-true, ne-eqb, not-true}
 use Rattle.words.proofs.Bools.{Is, and-l, and-r, by-bool}
 use Rattle.lengths.proofs.Lengths.{out-fits}
 use Rattle.answers.specs.Answers.{answerBytes}
 use Rattle.ports.specs.Bytes.{Bytes, modelIn}
 use Rattle.shape.specs.declared.Shape.{Shape}
 use Rattle.model.specs.Order.{Order, kindOf}
-use Rattle.model.specs.Step.{Result, refused, refuse, step}
+use Rattle.model.specs.Step.{Result, refused, step}
 use Rattle.model.proofs.Claims.{refused-changes-nothing, never-nine}
-use Rattle.counters.specs.Totals.{full, totalsAfter, stepTotals, totalsIn, recordOf}
+use Rattle.counters.specs.Totals.{full, stepTotals, totalsIn}
 use Rattle.host.specs.Host.{inBytes, hostRefusal, Hosted, hosted, hostStep, hostFresh, hostAudit}
 use Rattle.host.specs.ReadBack.{OfBytes}
 use Rattle.host.specs.Totals.{isRecord, recordRefusal, recordRefused, HostedTotals, withRecord, refusalPut, hostStepTotals}
 use Rattle.host.specs.Refused.{HostRefusedChangesNothing}
-use Rattle.host.proofs.Host.{fitting, same-lent}
+use Rattle.host.proofs.ReadBack.{lent-holds}
 
 -- A call that returns a refusal leaves the bytes b, and the slice that it writes to as `out`.
 abbrev Still : Bytes → (ℕ → List ℕ) → Hosted → Type 0
@@ -42,7 +42,7 @@ module _ (s : Shape) (b : Bytes) (of : OfBytes b) where
       → shown r ≡ hosted (r .answer .refusal) b (answerBytes (refused (r .answer .refusal)))
   shown-still o fit z h =
       ap shown (refused-changes-nothing s o (modelIn s b) h)
-      ∙ rw (same-lent (fitting s b fit z) (of .memory) (of .tags) (of .words))
+      ∙ rw (lent-holds s b of (rw (out-fits s _ _ _ _ fit refl z) at z) .1)
 
   module _ (o : Order) (out : List ℕ) where
     abbrev wide : Bool

@@ -1,7 +1,7 @@
 -- The agreement and the device's guarantees at the C calls: those of the model, read through what each call leaves. Assumes nothing.
 use Prim.Native.Nat.{ℕ, zero, suc, _<_}
 use mathlib.Core.Path.{_≡_, refl, sym, ap, _∙_}
-use mathlib.Core.Bool.{Bool, true, false, not}
+use mathlib.Core.Bool.{Bool, true, false}
 use mathlib.Core.List.{List, [], _∷_}
 use native.Mathlib.Omega.{arith}
 use lib.Dec.{eqb}
@@ -9,8 +9,7 @@ use lib.ListN.{getD, length}
 use mathlib.Core.Logic.{_≢_}
 use Rattle.words.specs.Bools.{bit}
 use Rattle.words.specs.Word.{merge}
-use Rattle.words.proofs.Bools.{Is, by-bool, by-cond}
-use Rattle.answers.specs.Answers.{answerBytes}
+use Rattle.words.proofs.Bools.{Is, by-cond}
 use Rattle.ports.specs.Bytes.{Bytes, modelIn}
 use Rattle.ports.proofs.Bytes.{lent}
 use Rattle.shape.specs.declared.Shape.{Shape}
@@ -23,18 +22,18 @@ use Rattle.model.specs.Tables.{Model, lentRefusal}
 use Rattle.model.specs.Step.{Result, accepted, called, perform, step}
 use Rattle.model.specs.Fresh.{fresh}
 use Rattle.model.specs.Audit.{audit}
-use Rattle.model.specs.Flat.{Flat, wordIn, markIn, flatStep, flatStart}
+use Rattle.model.specs.Flat.{Flat, wordIn, markIn, flatStep}
 use Rattle.model.specs.Agreement.{AgreesOver}
 use Rattle.model.specs.Marks.{Event, clears, neither, SetSince, eventsOf, modelRun, isReadOf, leftAlone}
 use Rattle.model.proofs.Theorem.{agreement, audited-agreement, fresh-sim}
 use Rattle.model.proofs.Marks.{mark-says}
 use Rattle.model.proofs.Device.{mark-clear, device-guarantee, device-write-seen}
 use Rattle.model.proofs.InRanges.{device-range-clean}
-use Rattle.host.specs.Host.{inBytes, Hosted, hosted, hostRefusal, hostFresh, hostAudit}
+use Rattle.host.specs.Host.{Hosted, hostFresh, hostAudit}
 use Rattle.host.specs.ReadBack.{OfBytes}
-use Rattle.host.specs.Calls.{StepCall, orderOf, ordersOf, callOn, HasRoom, AllRoom, bytesAfter, Lendable, AuditsYes, HostAgreesOver, flatOf, FreshRun}
-use Rattle.host.specs.Calls.{HostAgreement, HostAuditedAgreement, bytesNow, flatNow, DeviceReads, HostMarkSays, HostDeviceGuarantee}
-use Rattle.host.specs.Calls.{HostDeviceRangeClean, HostDeviceWriteSeen}
+use Rattle.host.specs.Calls.{StepCall, orderOf, ordersOf, callOn, AllRoom, bytesAfter, Lendable}
+use Rattle.host.specs.Runs.{AuditsYes, HostAgreesOver, flatOf, FreshRun, HostAgreement, HostAuditedAgreement, bytesNow, flatNow, DeviceReads}
+use Rattle.host.specs.Runs.{HostMarkSays, HostDeviceGuarantee, HostDeviceRangeClean, HostDeviceWriteSeen}
 use Rattle.host.proofs.Host.{fitting}
 use Rattle.host.proofs.ReadBack.{lent-holds}
 use Rattle.host.proofs.Calls.{call-stepped, is-step, calls-are-run, fresh-is-fresh, audit-is-audit}

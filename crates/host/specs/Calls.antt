@@ -1,27 +1,20 @@
--- Calls of a C host, each on the bytes that the call before left: that they are the steps of the model, one after another, and what follows for every
--- list of them from bytes that `moesi_fresh` accepts. The proofs are in proofs/Calls.antt and proofs/Runs.antt.
-use Prim.Native.Nat.{ℕ, _<_}
+-- Calls of a C host, each on the bytes that the call before left: they are steps of the model, one after another. The proofs are in
+-- proofs/Calls.antt; what follows for a run of calls is in specs/Runs.antt.
+use Prim.Native.Nat.{ℕ}
 use mathlib.Core.Path.{_≡_}
-use mathlib.Core.Logic.{_↔_}
 use mathlib.Core.Bool.{true, false}
 use mathlib.Core.List.{List, [], _∷_, map}
 use lib.ListN.{length}
 use Rattle.words.specs.Bools.{bit}
-use Rattle.words.specs.Word.{merge}
-use Rattle.endian.specs.Little.{numbers}
-use Rattle.answers.specs.Answers.{answerBytes, answerIn}
+use Rattle.answers.specs.Answers.{answerIn}
 use Rattle.ports.specs.Bytes.{Bytes, modelIn}
 use Rattle.shape.specs.declared.Shape.{Shape}
-use Rattle.shape.specs.Range.{IsIn}
-use Rattle.model.specs.declared.order.Call.the-variants.{DeviceRead, DeviceWrite}
-use Rattle.model.specs.declared.order.Decoded.the-variants.{Asked}
-use Rattle.model.specs.Order.{Order, decode}
-use Rattle.model.specs.Step.{accepted, step}
+use Rattle.shape.specs.Shape.{withoutRanges, rangesEnd}
+use Rattle.model.specs.Order.{Order}
+use Rattle.model.specs.Step.{step}
 use Rattle.model.specs.Fresh.{fresh}
 use Rattle.model.specs.Audit.{audit}
-use Rattle.model.specs.Flat.{Flat, FlatAnswer, wordIn, markIn, flatStep, flatStart}
-use Rattle.model.specs.Agreement.{Agrees, Fits}
-use Rattle.model.specs.Marks.{SetSince, eventsOf, flatRun, modelRun, isReadOf, leftAlone}
+use Rattle.model.specs.Marks.{modelRun}
 use Rattle.counters.specs.Totals.{full, recordLength, totalsIn}
 use Rattle.host.specs.Host.{hostRefusal, Hosted, hosted, hostStep, hostFresh, hostAudit}
 use Rattle.host.specs.ReadBack.{OfBytes}
@@ -92,81 +85,9 @@ AuditIsAudit =
     (s : Shape) (b : Bytes) → Lendable s b → (verdict : List ℕ) → length verdict ≡ 1
     → hostAudit s b verdict ≡ hosted 0 b (bit (audit s (modelIn s b)) ∷ [])
 
--- The audit returns 0 and writes 1.
-abbrev pub AuditsYes : Shape → Bytes → Type 0
-AuditsYes s b = (verdict : List ℕ) → length verdict ≡ 1 → hostAudit s b verdict ≡ hosted 0 b (1 ∷ [])
-
--- A call agrees with the flat memory's answer: the five numbers in its 40 bytes do, and it returns the refusal among them.
-pub record CallAgrees (h : Hosted) (y : FlatAnswer) : Type 0 where
-  pub returned : h .refusal ≡ y .refusal
-  pub forty : length (h .out) ≡ 40
-  pub written : Agrees (answerIn (h .out)) y
-
--- A list of calls on bytes b, and a flat memory f that is fed their orders. The audit says yes before the first call and after each, and each call
--- agrees.
-unfoldable pub HostAgreesOver : Shape → List StepCall → Bytes → Flat → Type 0
-HostAgreesOver s [] b f = AuditsYes s b
-HostAgreesOver s (c ∷ cs) b f =
-    let flat = flatStep s (orderOf c) f in
-    AuditsYes s b × CallAgrees (callOn s c b) (flat .answer) × HostAgreesOver s cs (callOn s c b .lent) (flat .after)
-
--- The words in main memory's bytes, of which the flat memory starts.
-abbrev pub flatOf : Shape → Bytes → Flat
-flatOf s b = flatStart (numbers 8 (s .lines) (b .memory))
-
--- A run as a host makes it: whatever bytes it lends, `moesi_fresh` returns 0 on them, and then it makes calls.
-pub record FreshRun (s : Shape) (b : Bytes) (cs : List StepCall) : Type 0 where
-  pub bytes : OfBytes b
-  pub accepted : hostFresh s b .refusal ≡ 0
-  pub room : AllRoom cs
-
--- The agreement at the C calls: over every such run each call agrees with the flat memory, and the audit says yes.
-abbrev pub HostAgreement : Type 0
-HostAgreement = (s : Shape) (b : Bytes) (cs : List StepCall) → FreshRun s b cs → HostAgreesOver s cs (hostFresh s b .lent) (flatOf s b)
-
--- The same from any bytes on which the audit says yes, with any flat memory that fits the tables in them.
-abbrev pub HostAuditedAgreement : Type 0
-HostAuditedAgreement =
-    (s : Shape) (b : Bytes) (f : Flat) (cs : List StepCall) → OfBytes b → AuditsYes s b → Fits s (modelIn s b) f → AllRoom cs
-    → HostAgreesOver s cs b f
-
--- The bytes after such a run, and the flat memory after it.
-abbrev pub bytesNow : Shape → Bytes → List StepCall → Bytes
-bytesNow s b cs = bytesAfter s cs (hostFresh s b .lent)
-
-abbrev pub flatNow : Shape → Bytes → List StepCall → Flat
-flatNow s b cs = flatRun s (ordersOf cs) (flatOf s b)
-
--- No call set the mark of line a since the last that cleared it, or, if none did, since the start.
-abbrev pub NotSetSince : Shape → Bytes → List StepCall → ℕ → Type 0
-NotSetSince s b cs a = SetSince (eventsOf s a (ordersOf cs) (flatOf s b)) → ⊥
-
--- A device read of line a answers w: the call returns 0, changes no lent byte and writes 0, w, 0, 1, 0.
-abbrev pub DeviceReads : Shape → ℕ → Bytes → ℕ → Type 0
-DeviceReads s a b w =
-    (c : StepCall) → HasRoom c → decode s (orderOf c) ≡ Asked DeviceRead a → callOn s c b ≡ hosted 0 b (answerBytes (accepted w 0 1 0))
-
--- The mark's sentence, the device guarantee, what a device range buys, and that what a device wrote is seen: of C calls.
-abbrev pub HostMarkSays : Type 0
-HostMarkSays =
-    (s : Shape) (b : Bytes) (cs : List StepCall) → FreshRun s b cs → (a : ℕ) → a < s .lines
-    → (markIn (flatNow s b cs) a ≡ false) ↔ NotSetSince s b cs a
-
-abbrev pub HostDeviceGuarantee : Type 0
-HostDeviceGuarantee =
-    (s : Shape) (b : Bytes) (cs : List StepCall) → FreshRun s b cs → (a : ℕ) → NotSetSince s b cs a
-    → DeviceReads s a (bytesNow s b cs) (wordIn (flatNow s b cs) a)
-
-abbrev pub HostDeviceRangeClean : Type 0
-HostDeviceRangeClean =
-    (s : Shape) (b : Bytes) (cs : List StepCall) → FreshRun s b cs → (a : ℕ) → IsIn (s .device) a → (IsIn (s .scratch) a → ⊥)
-    → DeviceReads s a (bytesNow s b cs) (wordIn (flatNow s b cs) a)
-
-abbrev pub HostDeviceWriteSeen : Type 0
-HostDeviceWriteSeen =
-    (s : Shape) (b : Bytes) (cs : List StepCall) → FreshRun s b cs
-    → (c : StepCall) → HasRoom c → (mask x a : ℕ) → decode s (orderOf c) ≡ Asked (DeviceWrite mask x) a
-    → (later : List StepCall) → AllRoom later → leftAlone s a (ordersOf later) (flatStep s (orderOf c) (flatNow s b cs) .after) ≡ true
-    → (n : StepCall) → HasRoom n → isReadOf a (decode s (orderOf n)) ≡ true
-    → let read = callOn s n (bytesAfter s later (callOn s c (bytesNow s b cs) .lent)) in
-    (read .refusal ≡ 0) × (answerIn (read .out) .value ≡ merge mask (wordIn (flatNow s b cs) a) x)
+-- Where the ranges end within lines, fresh and the audit are the same calls as without ranges. So a host may make a model first and set its ranges
+-- then, as `struct moesi_model` does.
+abbrev pub HostRangesApart : Type 0
+HostRangesApart =
+    (s : Shape) (b : Bytes) → rangesEnd s ≡ true
+    → (hostFresh s b ≡ hostFresh (withoutRanges s) b) × ((verdict : List ℕ) → hostAudit s b verdict ≡ hostAudit (withoutRanges s) b verdict)

@@ -3,4 +3,5 @@ pub mod Host
 pub mod ReadBack
 pub mod Totals
 pub mod Calls
+pub mod Runs
 pub mod Refused

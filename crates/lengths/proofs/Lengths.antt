@@ -1,13 +1,14 @@
 -- Laws of the lengths of what is lent, and of refusals 2, 3 and 12. Assumes nothing.
 use Prim.Native.Nat.{ℕ, _*_}
-use mathlib.Core.Path.{_≡_, sym, _∙_}
+use mathlib.Core.Path.{_≡_, refl, sym, _∙_}
 use mathlib.Core.Logic.{_≢_}
-use mathlib.Core.Bool.{Bool, false, _&&_, false≢true}
+use mathlib.Core.Bool.{Bool, true, false, cond, _&&_, false≢true}
 use lib.Dec.{eqb}
 use borrow.Author.Tests.{eqb-true}
 use Rattle.words.proofs.Bools.{Is, and-l, and-r}
 use Rattle.shape.specs.declared.Shape.{Shape}
-use Rattle.shape.specs.Shape.{inRange, entries, rangesEnd}
+use Rattle.shape.specs.Range.{endsBy}
+use Rattle.shape.specs.Shape.{withoutRanges, inRange, entries, rangesEnd, fitRefusal}
 use Rattle.shape.proofs.Refusals.{accepted-all, not-nine}
 use Rattle.lengths.specs.Lengths.{tablesFit, bytesFit, refusalBy}
 
@@ -61,3 +62,19 @@ never-nine s memory tags states words out = not-nine s (bytesFit s memory tags s
 -- Without room for what is written to, there is a refusal.
 pub some-refusal : (s : Shape) (memory tags states words : ℕ) → refusalBy s memory tags states words false ≢ 0
 some-refusal s memory tags states words e = false≢true (accepted-fits s memory tags states words false e .out-fits)
+
+-- Ranges that end within lines refuse nothing.
+module _ (s : Shape) (memory tags states words : ℕ) (out : Bool) where
+  abbrev unrangedRefusal : ℕ
+  unrangedRefusal = cond (inRange s) (cond (bytesFit s memory tags states words && out) 0 3) 2
+
+  refusal-with : rangesEnd s ≡ true → refusalBy s memory tags states words out ≡ unrangedRefusal
+  unfolding refusalBy fitRefusal
+  refusal-with e = rw e
+
+  refusal-without : refusalBy (withoutRanges s) memory tags states words out ≡ unrangedRefusal
+  unfolding refusalBy fitRefusal rangesEnd endsBy inRange bytesFit tablesFit
+  refusal-without = refl
+
+  pub refused-apart : rangesEnd s ≡ true → refusalBy s memory tags states words out ≡ refusalBy (withoutRanges s) memory tags states words out
+  refused-apart e = refusal-with e ∙ sym refusal-without
