@@ -29,7 +29,7 @@ use Rattle.model.proofs.Theorem.{agreement, audited-agreement, fresh-sim}
 use Rattle.model.proofs.Marks.{mark-says}
 use Rattle.model.proofs.Device.{mark-clear, device-guarantee, device-write-seen}
 use Rattle.model.proofs.InRanges.{device-range-clean}
-use Rattle.host.specs.Host.{Hosted, hostFresh, hostAudit}
+use Rattle.host.specs.Host.{inBytes, Hosted, hostFresh, hostAudit}
 use Rattle.host.specs.ReadBack.{OfBytes}
 use Rattle.host.specs.Calls.{StepCall, orderOf, ordersOf, callOn, AllRoom, bytesAfter, Lendable}
 use Rattle.host.specs.Runs.{AuditsYes, HostAgreesOver, flatOf, FreshRun, HostAgreement, HostAuditedAgreement, bytesNow, flatNow, DeviceReads}
@@ -91,8 +91,16 @@ device-still s t o a asks = by-cond (λ (r : Result). r .after ≡ t) (eqb (lent
 device-reads : (s : Shape) (b : Bytes) → Lendable s b → (a w : ℕ)
     → ((o : Order) → decode s o ≡ Asked DeviceRead a → step s o (modelIn s b) .answer ≡ accepted w 0 1 0) → DeviceReads s a b w
 device-reads s b lend a w answers c room asks =
-    call-stepped s b lend c room
-    ∙ rw (answers (orderOf c) asks, device-still s (modelIn s b) (orderOf c) a asks, lent-holds s b (lend .bytes) (lend .accepted) .1)
+    let k = is-step s b lend c room in
+    let is = answers (orderOf c) asks in
+    record {
+      returned = k .returned ∙ ap (λ (y : Answer). y .refusal) is;
+      still =
+          ap (λ (h : Hosted). h .lent) (call-stepped s b lend c room) ∙ ap inBytes (device-still s (modelIn s b) (orderOf c) a asks)
+          ∙ lent-holds s b (lend .bytes) (lend .accepted) .1;
+      forty = k .forty;
+      answer = k .answer ∙ is;
+    }
 
 -- Of a run from fresh on: what the bytes hold after it, and the laws of the model with the flat memory that starts from memory's bytes.
 module _ (s : Shape) (b : Bytes) (cs : List StepCall) (run : FreshRun s b cs) where
@@ -115,10 +123,11 @@ module _ (s : Shape) (b : Bytes) (cs : List StepCall) (run : FreshRun s b cs) wh
   unfolding modelIn
   guarantee a = device-guarantee s (modelIn s b) accepted-lent (ordersOf cs) a
 
-  range-clean : (a : ℕ) → IsIn (s .device) a → (IsIn (s .scratch) a → ⊥) → (o : Order) → decode s o ≡ Asked DeviceRead a
-      → step s o modelNow .answer ≡ accepted (wordIn (flatNow s b cs) a) 0 1 0
+  range-clean : (a : ℕ) → IsIn (s .device) a → (IsIn (s .scratch) a → ⊥)
+      → (markIn (flatNow s b cs) a ≡ false)
+      × ((o : Order) → decode s o ≡ Asked DeviceRead a → step s o modelNow .answer ≡ accepted (wordIn (flatNow s b cs) a) 0 1 0)
   unfolding modelIn
-  range-clean a inside apart = device-range-clean s (modelIn s b) accepted-lent a inside apart (ordersOf cs) .1
+  range-clean a inside apart = device-range-clean s (modelIn s b) accepted-lent a inside apart (ordersOf cs)
 
   write-seen : (mask x a : ℕ) (o : Order) → decode s o ≡ Asked (DeviceWrite mask x) a
       → (later : List Order) → leftAlone s a later (flatStep s o (flatNow s b cs) .after) ≡ true
@@ -157,7 +166,8 @@ host-device-guarantee s b cs run a unset =
 
 pub host-device-range-clean : HostDeviceRangeClean
 host-device-range-clean s b cs run a inside apart =
-    device-reads s (bytesNow s b cs) (lend-now s b cs run) a _ (λ o asks. rw (holds-now s b cs run) (range-clean s b cs run a inside apart o asks))
+    let clean = range-clean s b cs run a inside apart in
+    (clean .0, device-reads s (bytesNow s b cs) (lend-now s b cs run) a _ (λ o asks. rw (holds-now s b cs run) (clean .1 o asks)))
 
 pub host-device-write-seen : HostDeviceWriteSeen
 host-device-write-seen s b cs run c room mask x a asks later rooms alone n here reads =

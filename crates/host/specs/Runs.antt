@@ -8,7 +8,7 @@ use mathlib.Core.List.{List, [], _∷_}
 use lib.ListN.{length}
 use Rattle.words.specs.Word.{merge}
 use Rattle.endian.specs.Little.{numbers}
-use Rattle.answers.specs.Answers.{answerBytes, answerIn}
+use Rattle.answers.specs.Answers.{answerIn}
 use Rattle.ports.specs.Bytes.{Bytes, modelIn}
 use Rattle.shape.specs.declared.Shape.{Shape}
 use Rattle.shape.specs.Range.{IsIn}
@@ -41,7 +41,7 @@ HostAgreesOver s (c ∷ cs) b f =
     let flat = flatStep s (orderOf c) f in
     AuditsYes s b × CallAgrees (callOn s c b) (flat .answer) × HostAgreesOver s cs (callOn s c b .lent) (flat .after)
 
--- The words in main memory's bytes, of which the flat memory starts.
+-- The flat memory at the start: the words in main memory's bytes, and marks of 0.
 abbrev pub flatOf : Shape → Bytes → Flat
 flatOf s b = flatStart (numbers 8 (s .lines) (b .memory))
 
@@ -72,27 +72,37 @@ flatNow s b cs = flatRun s (ordersOf cs) (flatOf s b)
 abbrev pub NotSetSince : Shape → Bytes → List StepCall → ℕ → Type 0
 NotSetSince s b cs a = SetSince (eventsOf s a (ordersOf cs) (flatOf s b)) → ⊥
 
--- A device read of line a answers w: the call returns 0, changes no lent byte and writes 0, w, 0, 1, 0.
-abbrev pub DeviceReads : Shape → ℕ → Bytes → ℕ → Type 0
-DeviceReads s a b w =
-    (c : StepCall) → HasRoom c → decode s (orderOf c) ≡ Asked DeviceRead a → callOn s c b ≡ hosted 0 b (answerBytes (accepted w 0 1 0))
+-- A device read that answers w: it returns 0, changes no lent byte, and writes the five numbers 0, w, 0, 1 read, 0 writes.
+pub record ReadsWord (b : Bytes) (w : ℕ) (h : Hosted) : Type 0 where
+  pub returned : h .refusal ≡ 0
+  pub still : h .lent ≡ b
+  pub forty : length (h .out) ≡ 40
+  pub answer : answerIn (h .out) ≡ accepted w 0 1 0
 
--- The mark's sentence, the device guarantee, what a device range buys, and that what a device wrote is seen: of C calls.
+-- Every device read of line a on bytes b does.
+abbrev pub DeviceReads : Shape → ℕ → Bytes → ℕ → Type 0
+DeviceReads s a b w = (c : StepCall) → HasRoom c → decode s (orderOf c) ≡ Asked DeviceRead a → ReadsWord b w (callOn s c b)
+
+-- After such a run the mark of a line is 0 exactly where no call set it since the last that cleared it.
 abbrev pub HostMarkSays : Type 0
 HostMarkSays =
     (s : Shape) (b : Bytes) (cs : List StepCall) → FreshRun s b cs → (a : ℕ) → a < s .lines
     → (markIn (flatNow s b cs) a ≡ false) ↔ NotSetSince s b cs a
 
+-- The device guarantee: then a device reads the line's flat word, without a flush.
 abbrev pub HostDeviceGuarantee : Type 0
 HostDeviceGuarantee =
     (s : Shape) (b : Bytes) (cs : List StepCall) → FreshRun s b cs → (a : ℕ) → NotSetSince s b cs a
     → DeviceReads s a (bytesNow s b cs) (wordIn (flatNow s b cs) a)
 
+-- What a device range buys: the mark of a line in it and outside scratch is 0, and a device reads the line's flat word.
 abbrev pub HostDeviceRangeClean : Type 0
 HostDeviceRangeClean =
     (s : Shape) (b : Bytes) (cs : List StepCall) → FreshRun s b cs → (a : ℕ) → IsIn (s .device) a → (IsIn (s .scratch) a → ⊥)
-    → DeviceReads s a (bytesNow s b cs) (wordIn (flatNow s b cs) a)
+    → (markIn (flatNow s b cs) a ≡ false) × DeviceReads s a (bytesNow s b cs) (wordIn (flatNow s b cs) a)
 
+-- What a device wrote is seen: after such a run, a device write of a line, and any calls that do not write the line, every read of it, by a port in
+-- either mode or by a device, returns 0 and answers the flat word that the line had before, with the operand merged under the mask.
 abbrev pub HostDeviceWriteSeen : Type 0
 HostDeviceWriteSeen =
     (s : Shape) (b : Bytes) (cs : List StepCall) → FreshRun s b cs
