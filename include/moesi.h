@@ -110,12 +110,14 @@
  * orders and no flush. Scratch is for what no device reads: its lines are stored
  * when they are evicted or flushed, or a device writes them, and no sooner.
  *
- * What this page calls proved is said of a model that keeps its numbers, the
- * ranges among them, from fresh on. But ranges are numbers of a call like the
- * others: nothing of them is kept in the tables, and where 12 is not given a fresh
- * model and the audit's verdict are the same with and without them. So a program
- * may change them between two orders: ports read right all the same, but a line
- * that was written in write back before stays as it is when it comes into the
+ * What this page calls proved is said of the calls of this page, one after another
+ * on the same memory and tables (crates/host/specs/Runs.antt has the statements),
+ * and of a model that keeps its numbers, the ranges among them, from fresh on; it
+ * may be made fresh before its ranges are set. But ranges are numbers of a call
+ * like the others: nothing of them is kept in the tables, and where 12 is not given
+ * a fresh model and the audit's verdict are the same with and without them. So a
+ * program may change them between two orders: ports read right all the same, but a
+ * line that was written in write back before stays as it is when it comes into the
  * device range, and a device may read it wrong until a port accesses it there (and
  * not in scratch), a device writes it, or its owner flushes it.
  *
