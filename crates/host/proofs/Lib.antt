@@ -5,4 +5,5 @@ pub mod Totals
 pub mod Records
 pub mod Calls
 pub mod Runs
+pub mod Example
 pub mod Refused
