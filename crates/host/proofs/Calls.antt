@@ -23,7 +23,7 @@ use Rattle.model.specs.Fresh.{fresh}
 use Rattle.model.specs.Audit.{audit}
 use Rattle.model.specs.Marks.{modelRun}
 use Rattle.model.proofs.InRanges.{ranges-apart}
-use Rattle.host.specs.Host.{inBytes, hostRefusal, Hosted, hosted, hostStep, hostFresh, hostAudit}
+use Rattle.host.specs.Host.{inBytes, hostRefusal, Hosted, hosted, verdictPut, hostStep, hostFresh, hostAudit}
 use Rattle.host.specs.ReadBack.{Held}
 use Rattle.host.specs.Calls.{StepCall, plain, counted, orderOf, ordersOf, callOn, HasRoom, AllRoom, bytesAfter, Lendable, IsStep, CallIsStep, CallsAreRun}
 use Rattle.host.specs.Calls.{FreshIsFresh, AuditIsAudit, HostRangesApart}
@@ -116,7 +116,7 @@ fresh-is-fresh s b of e =
     (lend, rw (fresh-leaves s b z) (lendable-in s b lend (fresh s (modelIn s b)) k), rw (fresh-leaves s b z) (read-back s (fresh s (modelIn s b)) k .0))
 
 pub audit-is-audit : AuditIsAudit
-unfolding hostAudit
+unfolding hostAudit verdictPut
 audit-is-audit s b lend verdict h = rw (eq-eqb (length verdict) 1 h, lend .accepted)
 
 -- With ranges and without.

@@ -10,8 +10,8 @@ use Rattle.lengths.specs.Lengths.{tablesFit, bytesFit, refusalBy}
 use Rattle.ports.specs.Bytes.{modelIn}
 use Rattle.model.proofs.Computing.{computing}
 use Rattle.counters.specs.Totals.{high, full, totalsAfter, stepTotals}
-use Rattle.host.specs.Host.{inBytes, hostStep, hostFresh}
-use Rattle.host.specs.Totals.{recordRefusal, recordRefused, refusalPut, hostStepTotals}
+use Rattle.host.specs.Host.{inBytes, refusalPut, hostStep, hostFresh}
+use Rattle.host.specs.Totals.{recordRefusal, recordRefused, hostStepTotals}
 use Rattle.host.specs.Calls.{AllRoom}
 use Rattle.host.specs.ReadBack.{AreBytes}
 use Rattle.host.specs.Example.{lentBytes, exampleCalls, answersOver, ExampleHolds}

@@ -7,7 +7,9 @@ use mathlib.Core.List.{List, [], _∷_}
 use native.Mathlib.Omega.{arith}
 use native.Mathlib.Nat.{mul-zero, mul-suc, add-comm}
 use lib.Dec.{eqb}
-use lib.ListN.{set, length, replicate, replicate-append-replicate}
+use lib.ListN.{getD, set, length, replicate, replicate-append-replicate}
+use mir.Syntax.{w8}
+use mir.Val.{Fits}
 use borrow.Author.Tests.{eq-eqb, ne-eqb, eqb-true}
 use Rattle.endian.specs.Little.{bytesOf, encoded}
 use Rattle.endian.proofs.Little.{same-bytes}
@@ -24,8 +26,16 @@ use Rattle.model.specs.Audit.{audit}
 use Rattle.words.specs.Bools.{bit}
 use Rattle.ports.specs.Bytes.{Bytes, bytes, modelIn, Fitting}
 use Rattle.ports.proofs.Bytes.{lent, refitted}
-use Rattle.host.specs.Host.{inBytes, hostRefusal, hosted, hostStep, hostFresh, hostAudit}
-use Rattle.host.specs.ReadBack.{AreBytes}
+use Rattle.host.specs.Host.{inBytes, hostRefusal, hosted, refusalPut, verdictPut, hostStep, hostFresh, hostAudit}
+use Rattle.host.specs.ReadBack.{AreBytes, OfBytes}
+
+-- Slices of u8 hold bytes.
+abbrev OfU8 : List ℕ → Type 0
+OfU8 l = (k : ℕ) → Fits w8 (getD l k 0)
+
+pub of-bytes : {m g h d : List ℕ} → OfU8 m → OfU8 g → OfU8 h → OfU8 d → OfBytes (bytes m g h d)
+of-bytes m g h d =
+    record { memory = λ k. omega (arith, m k); tags = λ k. omega (arith, g k); states = λ k. omega (arith, h k); words = λ k. omega (arith, d k) }
 
 pub fitting : (s : Shape) (b : Bytes) (out : Bool) → hostRefusal s b out ≡ 0 → Fitting s b
 fitting s b out e =
@@ -62,11 +72,11 @@ module _ (s : Shape) (o : Order) (b : Bytes) (out : List ℕ) {n : ℕ} (en : n 
 
   pub step-answered : n ≢ 0 → eqb (length out) 40 ≡ true → {out' : List ℕ} → out' ≡ answerBytes (refused n)
       → hosted n b out' ≡ hostStep s o b out
-  unfolding hostStep
+  unfolding hostStep refusalPut
   step-answered h w f = rw (← en, ne-eqb n 0 h, w, f)
 
   pub step-unanswered : n ≢ 0 → eqb (length out) 40 ≡ false → hosted n b out ≡ hostStep s o b out
-  unfolding hostStep
+  unfolding hostStep refusalPut
   step-unanswered h w = rw (← en, ne-eqb n 0 h, w)
 
 -- Zeros in bytes.
@@ -120,15 +130,15 @@ module _ (s : Shape) (b : Bytes) (out : List ℕ) {n : ℕ} (en : n ≡ hostRefu
   audit-fits z = fitting s b (eqb (length out) 1) (sym en ∙ z)
 
   pub audit-accepted : n ≡ 0 → {p : Bool} {v : ℕ} → p ≡ audit s (modelIn s b) → v ≡ bit p → hosted 0 b (set out 0 v) ≡ hostAudit s b out
-  unfolding hostAudit
+  unfolding hostAudit verdictPut
   audit-accepted z {p} {v} ep ev =
       let o = out-fits s _ _ _ _ (eqb (length out) 1) en z in
       rw (← en, eq-eqb n 0 z, o, only out v (eqb-true _ _ o), ev, ep, z)
 
   pub audit-refused : n ≢ 0 → eqb (length out) 1 ≡ true → hosted n b (set out 0 0) ≡ hostAudit s b out
-  unfolding hostAudit
+  unfolding hostAudit verdictPut
   audit-refused h o = rw (← en, ne-eqb n 0 h, o, only out 0 (eqb-true _ _ o))
 
   pub audit-left : n ≢ 0 → eqb (length out) 1 ≡ false → hosted n b out ≡ hostAudit s b out
-  unfolding hostAudit
+  unfolding hostAudit verdictPut
   audit-left h o = rw (← en, o)

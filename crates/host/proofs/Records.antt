@@ -19,8 +19,8 @@ use Rattle.counters.specs.Totals.{Totals, places, zeros, full, totalsAfter, Few
 use Rattle.counters.specs.Run.{answered}
 use Rattle.counters.proofs.Places.{room-at}
 use Rattle.counters.proofs.Sums.{Adds, adds-none, adds-answer, after-most, after-length, beyond, Grows, grows-none, grows-more, from-zeros}
-use Rattle.host.specs.Host.{hostRefusal, hosted, hostStep}
-use Rattle.host.specs.Totals.{recordRefusal, recordRefused, HostedTotals, refusalPut, hostStepTotals}
+use Rattle.host.specs.Host.{hostRefusal, hosted, refusalPut, hostStep}
+use Rattle.host.specs.Totals.{recordRefusal, recordRefused, HostedTotals, hostStepTotals}
 use Rattle.host.specs.Totals.{HostCall, leaves, answerTo, AnswerShown, RecordBeside, answersOn, recordOn, zeroRecord, RecordsAreSums}
 use Rattle.host.proofs.Totals.{stepAnswer, step-counts, answer-not-nine, record-misfit, record-full, call-counted}
 

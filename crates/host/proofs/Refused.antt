@@ -17,9 +17,9 @@ use Rattle.model.specs.Order.{Order, kindOf}
 use Rattle.model.specs.Step.{Result, refused, step}
 use Rattle.model.proofs.Claims.{refused-changes-nothing, never-nine}
 use Rattle.counters.specs.Totals.{full, stepTotals, totalsIn}
-use Rattle.host.specs.Host.{inBytes, hostRefusal, Hosted, hosted, hostStep, hostFresh, hostAudit}
+use Rattle.host.specs.Host.{inBytes, hostRefusal, Hosted, hosted, refusalPut, verdictPut, hostStep, hostFresh, hostAudit}
 use Rattle.host.specs.ReadBack.{OfBytes}
-use Rattle.host.specs.Totals.{isRecord, recordRefusal, recordRefused, HostedTotals, withRecord, refusalPut, hostStepTotals}
+use Rattle.host.specs.Totals.{isRecord, recordRefusal, recordRefused, HostedTotals, withRecord, hostStepTotals}
 use Rattle.host.specs.Refused.{HostRefusedChangesNothing}
 use Rattle.host.proofs.ReadBack.{lent-holds}
 
@@ -87,9 +87,9 @@ module _ (s : Shape) (b : Bytes) (of : OfBytes b) where
       (λ z. rw z (λ h. absurd (h (eqb-true _ 0 z))))
       (λ z. rw (not-true (eqb (hostRefusal s b true) 0) z) (λ h. refl))
 
-  audit-still : (verdict : List ℕ) → hostAudit s b verdict .lent ≡ b
+  audit-still : (verdict : List ℕ) → let h = hostAudit s b verdict in (h .lent ≡ b) × (h .refusal ≢ 0 → h .out ≡ verdictPut false verdict)
   unfolding hostAudit
-  audit-still verdict = refl
+  audit-still verdict = (refl, λ h. rw (ne-eqb _ 0 h))
 
 pub host-refused-changes-nothing : HostRefusedChangesNothing
 host-refused-changes-nothing s b of = record {

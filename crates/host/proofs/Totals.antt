@@ -21,9 +21,9 @@ use Rattle.counters.specs.Totals.{Totals, places, full, totalsAfter, Few, stepT
 use Rattle.counters.proofs.Answers.{step-few, refused-few}
 use Rattle.lengths.proofs.Lengths.{out-fits, some-refusal}
 use Rattle.lengths.proofs.Lengths as lengths
-use Rattle.answers.specs.Answers.{answerBytes}
-use Rattle.host.specs.Host.{hostRefusal, Hosted, hosted, hostStep}
-use Rattle.host.specs.Totals.{isRecord, recordRefusal, recordRefused, withRecord, refusalPut, countsIn, hostStepTotals}
+use Rattle.answers.specs.Answers.{answerBytes, answerIn}
+use Rattle.host.specs.Host.{hostRefusal, Hosted, hosted, refusalPut, hostStep}
+use Rattle.host.specs.Totals.{isRecord, recordRefusal, recordRefused, withRecord, countsIn, hostStepTotals}
 use Rattle.host.specs.ReadBack.{AreBytes}
 
 -- A refusal, put where the slice has its length, or not.
@@ -42,7 +42,7 @@ counts-refused n out h e = e ∙ rw (ne-eqb n 0 h)
 
 pub counts-accepted : (n : ℕ) (out : List ℕ) → n ≡ 0 → {x y z : ℕ} → x ≡ number 8 (drop 16 out) → y ≡ number 8 (drop 24 out)
     → z ≡ number 8 (drop 32 out) → accepted 0 x y z ≡ countsIn n out
-unfolding countsIn
+unfolding countsIn answerIn
 counts-accepted n out h ex ey ez = rw (eq-eqb n 0 h, ex, ey, ez)
 
 -- What is counted of an answer: all but its value.
@@ -82,7 +82,7 @@ module _ (s : Shape) (o : Order) (b : Bytes) (out : List ℕ) where
 
   -- What is read of an answer that was written is that answer, but for the value.
   answer-read : (a : Answer) → a ≡ step s o (modelIn s b) .answer → (n : ℕ) → n ≡ a .refusal → countsIn n (answerBytes a) ≡ counted a
-  unfolding countsIn
+  unfolding countsIn answerIn
   answer-read a e n en =
       let few : Few (kindOf o) a = rw e (step-few s o (modelIn s b)) in
       by-bool (eqb n 0)

@@ -23,7 +23,7 @@ twoPorts = unranged 2 1 2
 unfoldable pub lentBytes : Bytes
 lentBytes = bytes (5 ∷ replicate 15 0) (replicate 8 255) (replicate 2 255) (replicate 16 255)
 
--- A call, counted or not, with an answer of 40 bytes that hold something else.
+-- An order by its word and operand; and a slice for an answer, with something else in it.
 abbrev pub asked : ℕ → ℕ → Order
 asked word operand = record { word = word; operand = operand }
 

@@ -33,6 +33,14 @@ pub record Hosted : Type 0 where
 abbrev pub hosted : ℕ → Bytes → List ℕ → Hosted
 hosted n b out = record { refusal = n; lent = b; out = out }
 
+-- A slice for the five numbers, with a refusal's written where it has its 40 bytes.
+unfoldable pub refusalPut : ℕ → List ℕ → List ℕ
+refusalPut n out = cond (eqb (length out) 40) (answerBytes (refused n)) out
+
+-- A slice for a verdict, with 1 for yes or 0 for no written where it has its one byte.
+unfoldable pub verdictPut : Bool → List ℕ → List ℕ
+verdictPut says out = cond (eqb (length out) 1) (bit says ∷ []) out
+
 -- One order. A refusal changes no lent byte, and is written to the answer where that has its 40 bytes.
 unfoldable pub hostStep : Shape → Order → Bytes → List ℕ → Hosted
 hostStep s o b out =
@@ -40,7 +48,7 @@ hostStep s o b out =
     let r = step s o (modelIn s b) in
     cond (eqb n 0)
     (hosted (r .answer .refusal) (inBytes (r .after)) (answerBytes (r .answer)))
-    (hosted n b (cond (eqb (length out) 40) (answerBytes (refused n)) out))
+    (hosted n b (refusalPut n out))
 
 -- Making a fresh model.
 unfoldable pub hostFresh : Shape → Bytes → Hosted
@@ -50,4 +58,4 @@ hostFresh s b = let n = hostRefusal s b true in cond (eqb n 0) (hosted n (inByte
 unfoldable pub hostAudit : Shape → Bytes → List ℕ → Hosted
 hostAudit s b out =
     let n = hostRefusal s b (eqb (length out) 1) in
-    hosted n b (cond (eqb (length out) 1) (bit (eqb n 0 && audit s (modelIn s b)) ∷ []) out)
+    hosted n b (verdictPut (eqb n 0 && audit s (modelIn s b)) out)

@@ -3,9 +3,8 @@ use Prim.Native.Nat.{ℕ}
 use mathlib.Core.Path.{_≡_}
 use mathlib.Core.Bool.{Bool, true, false, cond, _&&_, not}
 use mathlib.Core.List.{List, [], _∷_}
-use lib.ListN.{length, drop, replicate}
+use lib.ListN.{length, replicate}
 use lib.Dec.{eqb}
-use Rattle.endian.specs.Little.{number}
 use Rattle.ports.specs.Bytes.{Bytes, modelIn}
 use Rattle.shape.specs.declared.Shape.{Shape}
 use Rattle.model.specs.declared.answer.Answer.{Answer}
@@ -13,8 +12,8 @@ use Rattle.model.specs.Order.{Order, kindOf}
 use Rattle.model.specs.Step.{accepted, refused}
 use Rattle.counters.specs.Totals.{full, totalsAfter, stepTotals, recordLength, totalsIn, recordOf}
 use Rattle.counters.specs.Run.{Answered, answered, others, AreSums}
-use Rattle.answers.specs.Answers.{answerBytes}
-use Rattle.host.specs.Host.{inBytes, hostRefusal, Hosted, hosted, hostStep}
+use Rattle.answers.specs.Answers.{answerBytes, answerIn}
+use Rattle.host.specs.Host.{inBytes, hostRefusal, Hosted, hosted, refusalPut, hostStep}
 
 -- Bytes that have the length of a record.
 abbrev pub isRecord : List ℕ → Bool
@@ -37,13 +36,9 @@ pub record HostedTotals : Type 0 where
 abbrev pub withRecord : Hosted → List ℕ → HostedTotals
 withRecord h bs = record { hosted = h; totals = bs }
 
--- A slice for the five numbers, with a refusal's written where it has its 40 bytes.
-unfoldable pub refusalPut : ℕ → List ℕ → List ℕ
-refusalPut n out = cond (eqb (length out) 40) (answerBytes (refused n)) out
-
 -- What is counted of a call of step that returned n: its refusal, or, of an accepted order, the swapped number and the two counts that it wrote.
 unfoldable pub countsIn : ℕ → List ℕ → Answer
-countsIn n out = cond (eqb n 0) (accepted 0 (number 8 (drop 16 out)) (number 8 (drop 24 out)) (number 8 (drop 32 out))) (refused n)
+countsIn n out = let a = answerIn out in cond (eqb n 0) (accepted 0 (a .swapped) (a .reads) (a .writes)) (refused n)
 
 -- One order with a record. A refusal changes no lent byte but the answer, where that has its 40 bytes, and the record, as above.
 unfoldable pub hostStepTotals : Shape → Order → Bytes → List ℕ → List ℕ → HostedTotals

@@ -2,7 +2,8 @@
 use model::answer::Answer;
 ghost use mathlib.Core.Path.{_≡_};
 ghost use lib.ListN.{length};
-ghost use Rattle.host.specs.Totals.{refusalPut, countsIn};
+ghost use Rattle.host.specs.Host.{refusalPut};
+ghost use Rattle.host.specs.Totals.{countsIn};
 
 // A refusal's five numbers, where the slice has its 40 bytes; one of another length is left alone.
 pub fn put_refusal(out: &mut [u8], n: u64)

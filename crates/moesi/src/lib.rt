@@ -1,6 +1,8 @@
 // The C interface: step, step with totals, fresh, audit and the conversion of old tables on numbers and byte slices, as include/moesi.h
 // declares them. Each returns its refusal, 0 if none.
 // All that is asked of the caller is that the slices have the lengths that it says and share no byte with one another.
+// Each contract equates what a call returns and leaves with a definition. Those of step, fresh and audit say besides that what is lent is
+// bytes (`OfBytes`): the theorems over calls, in crates/host/specs, start from that.
 use counters::lent;
 use letters::Way;
 use shape::Shape;
@@ -12,6 +14,7 @@ ghost use Rattle.shape.specs.Shape.{shapeOf, unranged};
 ghost use Rattle.decode.specs.Order.{order};
 ghost use Rattle.ports.specs.Bytes.{bytes};
 ghost use Rattle.host.specs.Host.{hosted, hostStep, hostFresh, hostAudit};
+ghost use Rattle.host.specs.ReadBack.{OfBytes};
 ghost use Rattle.host.specs.Totals.{withRecord, hostStepTotals};
 ghost use Rattle.letters.specs.declared.Way.the-variants.{ToNew, ToOld};
 ghost use Rattle.edition.specs.Convert.{tables, conversion, convert};
@@ -34,9 +37,10 @@ pub extern "C" fn moesi_step(
     data: &mut [u8],
     answer: &mut [u8],
 ) -> u64
-    ensures { λ r. ⌜ hosted r (bytes (now (memory .exit)) (now (tags .exit)) (now (states .exit)) (now («data» .exit))) (now (answer .exit))
+    ensures { λ r. ⌜ OfBytes (bytes (now (memory .entry)) (now (tags .entry)) (now (states .entry)) (now («data» .entry)))
+        × (hosted r (bytes (now (memory .exit)) (now (tags .exit)) (now (states .exit)) (now («data» .exit))) (now (answer .exit))
         ≡ hostStep (shapeOf ports sets lines «scratch_first» «scratch_count» «device_first» «device_count») (order word operand)
-        (bytes (now (memory .entry)) (now (tags .entry)) (now (states .entry)) (now («data» .entry))) (now (answer .entry)) ⌝ }
+        (bytes (now (memory .entry)) (now (tags .entry)) (now (states .entry)) (now («data» .entry))) (now (answer .entry))) ⌝ }
 {
     let shape = Shape {
         ports,
@@ -91,11 +95,12 @@ pub extern "C" fn moesi_step_totals(
     answer: &mut [u8],
     totals: &mut [u8],
 ) -> u64
-    ensures { λ r. ⌜ withRecord (hosted r (bytes (now (memory .exit)) (now (tags .exit)) (now (states .exit)) (now («data» .exit)))
+    ensures { λ r. ⌜ OfBytes (bytes (now (memory .entry)) (now (tags .entry)) (now (states .entry)) (now («data» .entry)))
+        × (withRecord (hosted r (bytes (now (memory .exit)) (now (tags .exit)) (now (states .exit)) (now («data» .exit)))
         (now (answer .exit))) (now (totals .exit))
         ≡ hostStepTotals (shapeOf ports sets lines «scratch_first» «scratch_count» «device_first» «device_count») (order word operand)
         (bytes (now (memory .entry)) (now (tags .entry)) (now (states .entry)) (now («data» .entry))) (now (answer .entry))
-        (now (totals .entry)) ⌝ }
+        (now (totals .entry))) ⌝ }
 {
     if totals.len() != lent::RECORD_BYTES {
         let shape = Shape {
@@ -162,9 +167,10 @@ pub extern "C" fn moesi_fresh(
     states: &mut [u8],
     data: &mut [u8],
 ) -> u64
-    ensures { λ r. ⌜ hosted r (bytes (now (memory .entry)) (now (tags .exit)) (now (states .exit)) (now («data» .exit))) []
+    ensures { λ r. ⌜ OfBytes (bytes (now (memory .entry)) (now (tags .entry)) (now (states .entry)) (now («data» .entry)))
+        × (hosted r (bytes (now (memory .entry)) (now (tags .exit)) (now (states .exit)) (now («data» .exit))) []
         ≡ hostFresh (shapeOf ports sets lines «scratch_first» «scratch_count» «device_first» «device_count»)
-        (bytes (now (memory .entry)) (now (tags .entry)) (now (states .entry)) (now («data» .entry))) ⌝ }
+        (bytes (now (memory .entry)) (now (tags .entry)) (now (states .entry)) (now («data» .entry)))) ⌝ }
 {
     let shape = Shape {
         ports,
@@ -217,10 +223,11 @@ pub extern "C" fn moesi_audit(
     data: &[u8],
     verdict: &mut [u8],
 ) -> u64
-    ensures { λ r. ⌜ hosted r (bytes (now (memory .entry)) (now (tags .entry)) (now (states .entry)) (now («data» .entry)))
+    ensures { λ r. ⌜ OfBytes (bytes (now (memory .entry)) (now (tags .entry)) (now (states .entry)) (now («data» .entry)))
+        × (hosted r (bytes (now (memory .entry)) (now (tags .entry)) (now (states .entry)) (now («data» .entry)))
         (now (verdict .exit))
         ≡ hostAudit (shapeOf ports sets lines «scratch_first» «scratch_count» «device_first» «device_count»)
-        (bytes (now (memory .entry)) (now (tags .entry)) (now (states .entry)) (now («data» .entry))) (now (verdict .entry)) ⌝ }
+        (bytes (now (memory .entry)) (now (tags .entry)) (now (states .entry)) (now («data» .entry))) (now (verdict .entry))) ⌝ }
 {
     let shape = Shape {
         ports,
