@@ -17,7 +17,7 @@
  * moesi_fresh, moesi_step, moesi_step_totals, moesi_audit, moesi_from_old and
  * moesi_to_old are what is proved, and what the struct calls. They are for
  * programs that lay out their own tables; the argument lists of the first four
- * grow with the model.
+ * grow with the model. The struct itself is plain C over them: tested, not proved.
  *
  * The model
  * =========
@@ -78,8 +78,7 @@
  *   7  the mask of a swap is neither 0x0F nor 0xF0
  *   8  at the line's index, some port's entry has a byte that is no state, or
  *      isn't invalid and has a home line not below lines (asked of every kind but
- *      a device read). A model that starts fresh, and whose memory and tables
- *      nobody but moesi_step and moesi_step_totals writes, never gives it.
+ *      a device read). In a run from fresh (see below) it is never given.
  *  10  moesi_from_old: some byte of the old state table is above 4;
  *      moesi_to_old: some byte of the state table is no state
  *  11  moesi_to_old: some entry is in write through. Wherever the two stand, a
@@ -88,7 +87,31 @@
  * A refused call changes no lent byte but the answer (number and four zeros), the
  * verdict (0), or the record (the refused order is counted, unless the refusal is
  * 9). An answer, a verdict or a record of another length is left alone, and so are
- * the tables that a refused conversion was to write.
+ * the tables that a refused conversion was to write. This is proved of every call
+ * and every refusal (RefusedChangesNothing in crates/moesi/specs/Refused.antt).
+ *
+ * What is proved of programs
+ * --------------------------
+ *
+ * Each call returns, writes and leaves what its definition says, on every input.
+ * More is proved of programs that call again and again. This page calls it a run
+ * from fresh when
+ *
+ *   - moesi_fresh returns 0, whatever the bytes that it is lent,
+ *   - then moesi_step and moesi_step_totals are called, in any mixture and any
+ *     number of times, each on the memory and tables that the call before left,
+ *   - every answer has its 40 bytes, and every record has its length and room,
+ *   - the numbers of the shape stay the same (but ranges that end within lines may
+ *     be set between moesi_fresh and the first order), and
+ *   - nobody else writes memory or tables.
+ *
+ * Over every run from fresh the calls agree with a flat memory, which has a word
+ * for each line and no caches: every answer has the flat memory's refusal, value
+ * and swapped number. The value of a device read is excepted, unless the rule
+ * under "What a device sees" holds. Refusal 8 is never given, and moesi_audit
+ * says yes before the first order and after each. This is HostAgreement, in
+ * crates/host/specs/Runs.antt. That file has what is proved below of a run from
+ * fresh too.
  *
  * Ranges
  * ------
@@ -104,44 +127,42 @@
  * and traces carry none.
  *
  * What a device range buys: a device always reads a line in it (and outside
- * scratch) right, with no flush. This is proved of a model that starts fresh, and
- * whose memory and tables nobody but moesi_step and moesi_step_totals writes. So a
- * driver puts the buffers that a device reads there, and needs no mode in its
- * orders and no flush. Scratch is for what no device reads: its lines are stored
- * when they are evicted or flushed, or a device writes them, and no sooner.
+ * scratch) right, with no flush. This is proved of every run from fresh
+ * (HostDeviceRangeClean). So a driver puts the buffers that a device reads there,
+ * and needs no mode in its orders and no flush. Scratch is for what no device
+ * reads: its lines are stored when they are evicted or flushed, or a device writes
+ * them, and no sooner.
  *
- * What this page calls proved is said of the calls of this page, one after another
- * on the same memory and tables (crates/host/specs/Runs.antt has the statements),
- * and of a model that keeps its numbers, the ranges among them, from fresh on; it
- * may be made fresh before its ranges are set. But ranges are numbers of a call
- * like the others: nothing of them is kept in the tables, and where 12 is not given
- * a fresh model and the audit's verdict are the same with and without them. So a
- * program may change them between two orders: ports read right all the same, but a
- * line that was written in write back before stays as it is when it comes into the
- * device range, and a device may read it wrong until a port accesses it there (and
- * not in scratch), a device writes it, or its owner flushes it.
+ * Ranges are numbers of a call like the others. Nothing of them is kept in the
+ * tables, and where 12 is not given a fresh model and the audit's verdict are the
+ * same with and without them (HostRangesApart in crates/host/specs/Calls.antt). So
+ * a program may change them between two orders. It is then no run from fresh any
+ * more, and what happens follows from the rules, and is tested: ports read right
+ * all the same. A line that was written in write back before stays as it is when it
+ * comes into the device range, and a device may read it wrong until a port accesses
+ * it there (and not in scratch), a device writes it, or its owner flushes it.
  *
  * What a device sees
  * ------------------
  *
  * A device reads main memory behind the caches, so a word that a port wrote in
- * write back may not be there yet. For a model that starts fresh, and whose
- * memory and tables nobody but moesi_step and moesi_step_totals writes, this is
- * proved: a device read of a line is right (it gives the word that a port would
- * read) with no flush, unless the line was written in write back, by a write or
- * by a swap that succeeded, since its last write-through access by any port (a
- * read, a write or a swap, successful or not) or its last device write or,
- * without either, since the start. The rule looks at these orders alone: a flush
- * does not count as a write-through access. What it does is store the word if the
- * port that flushes owns the line (state O or M); so once every holder that owns
- * the line has flushed it, memory has the word, until the next write, or swap
- * that succeeds, in write back. A flush by a port that doesn't hold the line
- * changes nothing: to be sure, flush the line from every port, or read it once in
- * write through from any port.
+ * write back may not be there yet. Of every run from fresh this is proved
+ * (HostDeviceGuarantee): a device read of a line is right (it gives the word that a
+ * port would read) with no flush, unless the line was written in write back, by a
+ * write or by a swap that succeeded, since its last write-through access by any
+ * port (a read, a write or a swap, successful or not) or its last device write or,
+ * without either, since the start. A line in the device range and outside scratch
+ * is never written in write back, so the rule always holds of it.
  *
- * A line in the device range and outside scratch is never written in write back,
- * so the rule always holds of it: from fresh on a device reads it right, without a
- * flush.
+ * The rule looks at these orders alone: a flush does not count as a write-through
+ * access. What a flush is good for follows from the rules of the step, and no
+ * theorem over runs says it yet. A flush stores the word if the port that flushes
+ * owns the line (state O or M), and changes nothing if the port doesn't hold the
+ * line. So once every owner has flushed the line memory has the word, until the
+ * next write, or swap that succeeds, in write back. To be sure, flush the line from
+ * every port. Outside scratch there is another way, which the rule covers: read the
+ * line once in write through, from any port. In scratch that read runs write back,
+ * and does not help.
  *
  * Stores that leave the word as it was
  * ------------------------------------
@@ -166,30 +187,32 @@
  * Swaps that fail
  * ---------------
  *
- * A swap that does not find its compare value is a read. On all memory and tables
- * this is proved: where a swap is accepted and answers swapped 0, the five numbers,
- * memory and the tables are those of a read by the same port of the same line in
- * the same mode, whether the port holds the line or not. So a port that fails to
- * take a lock leaves the others their copies. In a model that passes the audit it
- * shares the line with them from then on, if it had no copy itself: in write back M
- * and O become O, so that an owner stays the owner, and E and S become S; in write
- * through all become S, and an owner's word is stored. In a record of totals such
- * a swap counts as a swap, and not as one that succeeded.
+ * A swap that does not find its compare value is a read. On all memory and
+ * tables this is proved (FailedSwapReads in crates/model/specs/Claims.antt):
+ * where a swap is accepted and answers swapped 0, the five numbers, memory and
+ * the tables are those of a read by the same port of the same line in the same
+ * mode, whether the port holds the line or not. So a port that fails to take a
+ * lock leaves the others their copies. In a model that passes the audit it
+ * shares the line with them from then on, if it had no copy itself: in write
+ * back M and O become O, so that an owner stays the owner, and E and S become S;
+ * in write through all become S, and an owner's word is stored. In a record of
+ * totals such a swap counts as a swap, and not as one that succeeded.
  *
  * What a device writes
  * --------------------
  *
- * A device write puts the operand's bytes, where the mask has a 1, into the line's
- * word as the ports have it: the owner's, or memory's where no port owns the line.
- * The whole word is then in main memory, and no port has a copy. For the same
- * models this is proved: until the line is next written (by a write or by a swap
- * that succeeds, in either mode, or by a device), every read of it by a port, in
- * either mode, and every device read give the device's bytes, and beside them what
- * was last written there, whatever orders come between. So a driver needs no flush
- * and no invalidate, neither before a device fills a buffer nor after it, whatever
- * the ports hold of the buffer; also where the device fills a line in part, for
- * what a port wrote beside its bytes is not lost. All this is said of the model's
- * device, which the caches hear when it writes, and not when it reads.
+ * A device write puts the operand's bytes, where the mask has a 1, into the
+ * line's word as the ports have it: the owner's, or memory's where no port owns
+ * the line. The whole word is then in main memory, and no port has a copy. Of
+ * every run from fresh this is proved (HostDeviceWriteSeen): until the line is
+ * next written (by a write or by a swap that succeeds, in either mode, or by a
+ * device), every read of it by a port, in either mode, and every device read
+ * give the device's bytes, and beside them those that the line had, whatever
+ * orders come between. So a driver needs no flush and no invalidate, neither
+ * before a device fills a buffer nor after it, whatever the ports hold of the
+ * buffer; also where the device fills a line in part, for what a port wrote
+ * beside its bytes is not lost. All this is said of the model's device, which
+ * the caches hear when it writes, and not when it reads.
  *
  * Totals for a run
  * ----------------
@@ -207,11 +230,10 @@
  * nowhere: it is given before anything else is looked at where a total has no
  * room for an order more, and it changes neither memory nor tables nor record.
  * For a record from zeros that nobody else writes this is proved: each total is
- * the sum over the answers given so far other than 9. And whatever the record
- * holds: where it has its length and 9 is not given, the call returns, answers and
- * leaves what moesi_step does; else memory and tables stay as they were. So what
- * is said above of a model's memory and tables holds of calls with and without a
- * record alike.
+ * the sum over the answers given so far other than 9 (RecordsAreSums in
+ * crates/host/specs/Totals.antt). And whatever the record holds: where it has its
+ * length and 9 is not given, the call returns, answers and leaves what moesi_step
+ * does; else memory and tables stay as they were (RecordBeside).
  *
  * Tables of the old edition
  * -------------------------
@@ -225,17 +247,18 @@
  * same way after: audit what was converted, beside its main memory, before the
  * first order.
  *
- * This is proved: there and back, in either direction, gives the bytes that there
- * were, where the first way is not refused. And a converted set, beside a main
- * memory of its length and under any ranges that end within lines, passes
- * moesi_audit exactly when the old one, beside the same memory, keeps the audit's
- * rules read on the five letters: every byte is at most 4 and every home line is
- * below lines; holders of a line have equal words; a line held in E or M has one
- * holder; a line has at most one O; a held line without an owner equals memory.
+ * This is proved (crates/edition/specs/Claims.antt): there and back, in either
+ * direction, gives the bytes that there were, where the first way is not
+ * refused. And a converted set, beside a main memory of its length and under any
+ * ranges that end within lines, passes moesi_audit exactly when the old one,
+ * beside the same memory, keeps the audit's rules read on the five letters:
+ * every byte is at most 4 and every home line is below lines; holders of a line
+ * have equal words; a line held in E or M has one holder; a line has at most one
+ * O; a held line without an owner equals memory.
  *
- * What this page says of a model that starts fresh is not said of one that starts
- * from converted tables: a line that is O or M in them was written in write back
- * before the first order here, and a device may read it wrong until it is stored.
+ * What this page says of a run from fresh is not said of one that starts from
+ * converted tables: a line that is O or M in them was written in write back before
+ * the first order here, and a device may read it wrong until it is stored.
  * moesi_model_clean looks.
  *
  * The output tables are other bytes than the input tables: a set is not converted
@@ -821,8 +844,9 @@ static inline uint64_t moesi_model_to_old(const struct moesi_model *m, uint8_t *
  * -------------------------
  *
  * These read the tables and change nothing. What they say of words holds in a
- * model that passes the audit, as every model does that started fresh and that
- * nobody but moesi_model_step and moesi_model_step_totals writes.
+ * model that passes the audit, as every model does that started fresh, whose ranges
+ * end within lines, and that nobody but moesi_model_step and
+ * moesi_model_step_totals writes.
  */
 
 /* For the looks below: the number of the port's entry for the line, where the model has both. */
