@@ -1,5 +1,5 @@
 -- The example of README.md, by computation. Assumes nothing.
-use Prim.Native.Nat.{ℕ, zero, suc, _<_}
+use Prim.Native.Nat.{zero, suc}
 use mathlib.Core.Path.{refl}
 use mathlib.Core.List.{_∷_}
 use native.Mathlib.Omega.{arith}
@@ -14,16 +14,12 @@ use Rattle.host.specs.Host.{inBytes, refusalPut, hostStep, hostFresh}
 use Rattle.host.specs.Totals.{recordRefusal, recordRefused, hostStepTotals}
 use Rattle.host.specs.Calls.{AllRoom}
 use Rattle.host.specs.ReadBack.{AreBytes}
+use Rattle.host.proofs.ReadBack.{same-below}
 use Rattle.host.specs.Example.{lentBytes, exampleCalls, answersOver, ExampleHolds}
-
-same-bytes : (n v : ℕ) → v < 256 → AreBytes (replicate n v)
-same-bytes zero v h k = omega arith
-same-bytes (suc n) v h zero = h
-same-bytes (suc n) v h (suc k) = same-bytes n v h k
 
 memory-bytes : AreBytes (5 ∷ replicate 15 0)
 memory-bytes zero = omega arith
-memory-bytes (suc k) = same-bytes 15 0 (omega arith) k
+memory-bytes (suc k) = same-below 256 15 0 (omega arith) k
 
 pub example-holds : ExampleHolds
 unfolding computing number bytesOf numbers encoded answerBytes answerIn tablesFit bytesFit refusalBy modelIn high full totalsAfter stepTotals inBytes hostStep hostFresh
@@ -32,9 +28,9 @@ example-holds = (
   record {
     bytes = record {
       memory = memory-bytes;
-      tags = same-bytes 8 255 (omega arith);
-      states = same-bytes 2 255 (omega arith);
-      words = same-bytes 16 255 (omega arith);
+      tags = same-below 256 8 255 (omega arith);
+      states = same-below 256 2 255 (omega arith);
+      words = same-below 256 16 255 (omega arith);
     };
     accepted = refl;
     room = (refl, ((refl, refl, refl), ((refl, refl, refl), (refl, tt))));

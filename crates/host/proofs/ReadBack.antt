@@ -64,13 +64,13 @@ unfolding putBelow
 column-put at f h zero c = c
 column-put at f h (suc p) c = column-set (at p) (f p) (h p) (column-put at f h p c)
 
-zeros-below : (m n : ℕ) → 0 < m → (k : ℕ) → getD (replicate n 0) k 0 < m
-zeros-below m zero h k = h
-zeros-below m (suc n) h zero = h
-zeros-below m (suc n) h (suc k) = zeros-below m n h k
+pub same-below : (m n v : ℕ) → v < m → (k : ℕ) → getD (replicate n v) k 0 < m
+same-below m zero v h k = omega (arith, h)
+same-below m (suc n) v h zero = h
+same-below m (suc n) v h (suc k) = same-below m n v h k
 
 column-zeros : (n m : ℕ) → 0 < m → Column n m (replicate n 0)
-column-zeros n m h = record { count = length-replicate n 0; below = zeros-below m n h }
+column-zeros n m h = record { count = length-replicate n 0; below = same-below m n 0 h }
 
 -- Numbers in bytes and out again.
 column-back : (w n : ℕ) {l : List ℕ} → Column n (256 ^ w) l → numbers w n (encoded w l) ≡ l

@@ -1,12 +1,12 @@
 -- A call of step with a record, by its three ways. Assumes nothing.
-use Prim.Native.Nat.{ℕ, _*_, _^_, _<_}
+use Prim.Native.Nat.{ℕ}
 use mathlib.Core.Path.{_≡_, refl, sym, ap, _∙_}
 use mathlib.Core.Logic.{_≢_}
 use mathlib.Core.Bool.{Bool, true, false, cond}
 use mathlib.Core.List.{List, [], _∷_}
 use native.Mathlib.Omega.{arith}
 use lib.Dec.{eqb}
-use lib.ListN.{getD, length, drop}
+use lib.ListN.{length, drop}
 use borrow.Author.Tests.{eq-eqb, ne-eqb, eqb-true, eqb-false, not-true}
 use Rattle.words.proofs.Bools.{and-none, and-all, by-bool, by-cond}
 use Rattle.endian.specs.Little.{number, encoded}
@@ -53,12 +53,6 @@ same-counted : (t : Totals) (k : ℕ) (a : Answer) → totalsAfter t k (counted 
 unfolding totalsAfter
 same-counted t k a = refl
 
--- The numbers of an answer that are counted, read where they were written.
-written : (a : Answer) (k x : ℕ) → k < 5 → getD (a .refusal ∷ a .value ∷ a .swapped ∷ a .reads ∷ a .writes ∷ []) k 0 ≡ x → x < 256 ^ 8
-    → number 8 (drop (8 * k) (answerBytes a)) ≡ x
-unfolding answerBytes
-written a k x h e f = number-at 8 _ k (rw e f) ∙ e
-
 module _ (s : Shape) (o : Order) (b : Bytes) (out : List ℕ) where
   abbrev pub wide : Bool
   wide = eqb (length out) 40
@@ -82,18 +76,12 @@ module _ (s : Shape) (o : Order) (b : Bytes) (out : List ℕ) where
 
   -- What is read of an answer that was written is that answer, but for the value.
   answer-read : (a : Answer) → a ≡ step s o (modelIn s b) .answer → (n : ℕ) → n ≡ a .refusal → countsIn n (answerBytes a) ≡ counted a
-  unfolding countsIn answerIn
+  unfolding countsIn answerIn answerBytes
   answer-read a e n en =
       let few : Few (kindOf o) a = rw e (step-few s o (modelIn s b)) in
+      let at = number-at 8 (a .refusal ∷ a .value ∷ a .swapped ∷ a .reads ∷ a .writes ∷ []) in
       by-bool (eqb n 0)
-      (λ z. rw (
-        z,
-        written a 2 (a .swapped) (omega arith) refl (omega (arith, few .swapped)),
-        written a 3 (a .reads) (omega arith) refl (omega (arith, few .reads)),
-        written a 4 (a .writes) (omega arith) refl (omega (arith, few .writes)),
-        ← en,
-        eqb-true n 0 z,
-      ))
+      (λ z. rw (z, at 2 (omega (arith, few .swapped)), at 3 (omega (arith, few .reads)), at 4 (omega (arith, few .writes)), ← en, eqb-true n 0 z))
       (λ z. rw (not-true (eqb n 0) z) (zeros (λ f. eqb-false n 0 (not-true _ z) (en ∙ f))))
     where
       zeros : a .refusal ≢ 0 → refused n ≡ counted a
