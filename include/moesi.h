@@ -100,7 +100,8 @@
  *   - moesi_fresh returns 0, whatever the bytes that it is lent,
  *   - then moesi_step and moesi_step_totals are called, in any mixture and any
  *     number of times, each on the memory and tables that the call before left,
- *   - every answer has its 40 bytes, and every record has its length and room,
+ *   - every answer has its 40 bytes, and every record has its length and room (any
+ *     other call is refused, and changes neither memory nor tables),
  *   - the numbers of the shape stay the same (but ranges that end within lines may
  *     be set between moesi_fresh and the first order), and
  *   - nobody else writes memory or tables.
