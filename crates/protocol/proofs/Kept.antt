@@ -35,13 +35,13 @@ abbrev pub tested : Test → Outcome → Mode → Bool → Bool → State → St
 tested q k m shared dirty s t =
     implies (known shared dirty s t) (q k m dirty (rule k m shared dirty s) s t (snooped (rule k m shared dirty s .bus) t))
 
-everywhere : Test → Bool
+unfoldable pub everywhere : Test → Bool
 everywhere q = forOutcomes (λ k. forModes (λ m. forBools (λ shared. forBools (λ dirty. forStates (λ s. forStates (λ t. tested q k m shared dirty s t))))))
 
 abbrev pub Kept : Test → Type 0
 Kept q = (k : Outcome) (m : Mode) (shared dirty : Bool) (s t : State) → Is (tested q k m shared dirty s t)
 
-kept : (q : Test) → Is (everywhere q) → Kept q
+pub kept : (q : Test) → Is (everywhere q) → Kept q
 unfolding everywhere
 kept q h k m shared dirty s t =
     at-state (λ t. tested q k m shared dirty s t)
