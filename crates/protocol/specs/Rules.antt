@@ -58,7 +58,8 @@ among Back = O
 among Through = S Through
 
 -- Below, m is the mode of the access, `shared` says that another port holds the line, and `dirty` that some port owns it, the port itself
--- included. Some combinations can't arise, as a port in O or M and a line that is not dirty; the table has a row for them all the same.
+-- included. Some combinations can't arise, as a port in O or M and a line that is not dirty: the rule has an answer there too, and the published
+-- tables leave it out (crates/rows).
 
 -- A read hit, or a swap hit that fails, of a line in another mode than m. (M is write back, so m is write through there.)
 abbrev pub turned : Mode → Bool → State → Rule

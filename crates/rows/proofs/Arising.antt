@@ -1,9 +1,9 @@
 -- Every row by which an order goes is printed; and on tables that pass the audit it says that such tables have it. Assumes nothing.
 use Prim.Native.Nat.{ℕ, zero, suc, _<_}
-use mathlib.Core.Path.{_≡_, refl, sym}
+use mathlib.Core.Path.{refl, sym}
 use mathlib.Core.Logic.{_≢_}
 use mathlib.Core.Bool.{Bool, true, false, cond, _&&_, not}
-use mathlib.Core.List.{List, [], _∷_}
+use mathlib.Core.List.{List, _∷_}
 use native.Mathlib.Omega.{arith}
 use native.Mathlib.Decide.{ℕ-discrete}
 use lib.Dec.{eqb}
@@ -13,8 +13,7 @@ use Rattle.words.specs.Access.{effectAt}
 use Rattle.words.proofs.Bools.{Is, and-l, and-r, both, mp, imp, contra, not-both, not-is, by-bool, by-cond}
 use Rattle.protocol.specs.declared.state.Mode.{Mode}
 use Rattle.protocol.specs.declared.state.State.{State}
-use Rattle.protocol.specs.declared.state.State.the-variants.{I, S, E, O, M}
-use Rattle.words.specs.declared.access.Access.{Access}
+use Rattle.protocol.specs.declared.state.State.the-variants.{I, E, M}
 use Rattle.words.specs.declared.access.Outcome.{Outcome}
 use Rattle.protocol.specs.declared.rules.Bus.{Bus}
 use Rattle.protocol.specs.declared.rules.Bus.the-variants.{Invalidate}
@@ -28,15 +27,14 @@ use Rattle.model.specs.declared.order.Call.{Call}
 use Rattle.model.specs.declared.order.Call.the-variants.{ByPort, Flush, DeviceRead, DeviceWrite}
 use Rattle.model.specs.declared.order.Decoded.{Decoded}
 use Rattle.model.specs.declared.order.Decoded.the-variants.{Asked, Refused}
-use Rattle.model.specs.Order.{Order, decode, There}
+use Rattle.model.specs.Order.{decode, There}
 use Rattle.model.specs.Tables.{Model, seen, holds, owns, dirty}
 use Rattle.model.specs.Step.{shared, wordFound, accessRule}
 use Rattle.model.specs.Audit.{audit}
-use Rattle.model.specs.Agreement.{lineWord}
 use Rattle.model.proofs.Below.{any-below, none-below, below-none}
 use Rattle.model.proofs.Decoded.{Sound, decode-sound}
 use Rattle.model.proofs.Audited.{audit-facts, facts-good}
-use Rattle.rows.specs.Cases.{Case, own, snoop, takeOver, flush, deviceWrite, deviceRead, arises, printed, ownAudited, snoopAudited, audited}
+use Rattle.rows.specs.Cases.{Case, own, snoop, arises, printed, ownAudited, snoopAudited, audited}
 use Rattle.rows.specs.Orders.{heardBy, others, casesOf, rowsOf, everyRow}
 use Rattle.rows.specs.Claims.{RowsArePrinted, RowsAreAudited}
 

@@ -1,14 +1,12 @@
 -- The state bytes after an order are those that its rows have. Assumes nothing.
-use Prim.Native.Nat.{ℕ, zero, _<_}
+use Prim.Native.Nat.{ℕ, _<_}
 use mathlib.Core.Path.{_≡_, refl}
 use mathlib.Core.Bool.{_&&_, not}
 use native.Mathlib.Omega.{arith}
 use lib.ListN.{getD}
 use lib.Dec.{eqb}
 use borrow.Author.Tests.{eqb-true, eqb-false, not-true}
-use Rattle.words.specs.declared.access.Access.{Access}
 use Rattle.words.proofs.Bools.{by-bool, by-cond}
-use Rattle.protocol.specs.declared.state.Mode.{Mode}
 use Rattle.protocol.specs.Rules.{flushRule}
 use Rattle.shape.specs.declared.Shape.{Shape}
 use Rattle.shape.specs.Shape.{entryOf}

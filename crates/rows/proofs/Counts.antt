@@ -1,33 +1,30 @@
 -- The counts of an order are the sums over its rows, and the word that is found is the one that a row names. Assumes nothing.
-use Prim.Native.Nat.{ℕ, zero, suc, _+_}
-use mathlib.Core.Path.{_≡_, refl, sym, _∙_}
-use mathlib.Core.Bool.{Bool, true, false, cond, _&&_, not, false≢true}
-use mathlib.Core.List.{List, [], _∷_}
+use Prim.Native.Nat.{ℕ, zero, suc}
+use mathlib.Core.Path.{_≡_, refl}
+use mathlib.Core.Bool.{Bool, false, _&&_, not}
+use mathlib.Core.List.{List, _∷_}
 use native.Mathlib.Omega.{arith}
 use lib.Dec.{eqb}
-use borrow.Author.Tests.{eqb-true, eqb-false, not-true}
-use Rattle.words.specs.Bools.{bit}
+use borrow.Author.Tests.{eqb-false, not-true}
 use Rattle.words.specs.declared.access.Access.{Access}
 use Rattle.words.specs.Access.{effectAt}
 use Rattle.words.proofs.Bools.{Is, not-both, by-bool, by-cond}
 use Rattle.protocol.specs.declared.state.Mode.{Mode}
-use Rattle.protocol.specs.declared.state.State.the-variants.{I}
 use Rattle.protocol.specs.declared.rules.Bus.{Bus}
 use Rattle.protocol.specs.declared.rules.Bus.the-variants.{Invalidate}
 use Rattle.protocol.specs.Rules.{flushRule}
 use Rattle.protocol.proofs.States.{not-valid}
 use Rattle.shape.specs.declared.Shape.{Shape}
-use Rattle.shape.specs.Shape.{entryOf}
 use Rattle.model.specs.declared.order.Call.{Call}
 use Rattle.model.specs.declared.order.Call.the-variants.{ByPort, Flush, DeviceRead, DeviceWrite}
 use Rattle.model.specs.declared.order.Decoded.{Decoded}
 use Rattle.model.specs.declared.order.Decoded.the-variants.{Asked, Refused}
-use Rattle.model.specs.Order.{Order, decode, looks}
+use Rattle.model.specs.Order.{decode, looks}
 use Rattle.model.specs.Below.{lowest, atOr}
-use Rattle.model.specs.Tables.{Model, lentRefusal, stateAt, seen, wordAt, memoryAt, holds, owns, dirty, columnSound}
-use Rattle.model.specs.Step.{Result, shared, wordSupplied, wordFound, fetches, evictsOwner, accessRule, accessed, flushed, deviceWritten, called, perform, step}
+use Rattle.model.specs.Tables.{Model, lentRefusal, seen, wordAt, memoryAt, holds, owns, dirty, columnSound}
+use Rattle.model.specs.Step.{Result, wordSupplied, wordFound, fetches, evictsOwner, accessRule, accessed, flushed, deviceWritten, called, perform, step}
 use Rattle.model.proofs.Below.{below-none, lowest-cases, lowest-gives}
-use Rattle.rows.specs.Cases.{Case, own, snoop, takeOver, flush, deviceWrite, deviceRead}
+use Rattle.rows.specs.Cases.{Case, snoop}
 use Rattle.rows.specs.Cells.{sourceOf, readsIn, writesIn}
 use Rattle.rows.specs.Orders.{heardBy, others, casesOf, rowsOf, sumOver, wordFrom}
 use Rattle.rows.specs.Claims.{CountsAreSums, WordsAreNamed}

@@ -1,14 +1,14 @@
 -- A small model and an order for each case, that goes by its row: two ports, one set, two lines, every word 5. Where tables that pass the audit have
 -- the case, these do. The order is by port 0 and of line 0, or by a device.
 use Prim.Native.Nat.{ℕ, _+_, _*_}
-use mathlib.Core.Bool.{Bool, true, false, cond, _&&_, not}
-use mathlib.Core.List.{List, [], _∷_}
+use mathlib.Core.Bool.{Bool, cond, _&&_, not}
+use mathlib.Core.List.{[], _∷_}
 use Rattle.words.specs.declared.access.Outcome.{Outcome}
 use Rattle.words.specs.declared.access.Outcome.the-variants.{Reads, Writes, Rewrites}
 use Rattle.protocol.specs.declared.state.Mode.{Mode}
 use Rattle.protocol.specs.declared.state.Mode.the-variants.{Through, Back}
 use Rattle.protocol.specs.declared.state.State.{State}
-use Rattle.protocol.specs.declared.state.State.the-variants.{I, S, E, O, M}
+use Rattle.protocol.specs.declared.state.State.the-variants.{I, S, O, M}
 use Rattle.protocol.specs.declared.rules.Bus.{Bus}
 use Rattle.protocol.specs.declared.rules.Bus.the-variants.{Quiet, Share, Update, Invalidate, ShareOwned}
 use Rattle.protocol.specs.State.{code, owner, modeOf}

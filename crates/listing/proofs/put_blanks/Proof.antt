@@ -1,7 +1,6 @@
 -- The loop goes up to the width. Assumes nothing.
 use borrow.Author.Needs.{needs}
 use Prim.Native.Nat.{_-_}
-use native.Mathlib.Omega.{arith}
 use Rattle.listing.proofs.put_blanks.Statement.{statement}
 use Rattle.listing.proofs.put_blanks.Tie as tie
 

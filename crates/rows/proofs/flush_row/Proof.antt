@@ -1,6 +1,5 @@
 -- `flush_row` has the cells of a flush. Assumes nothing.
 use borrow.Author.Needs.{needs}
-use Rattle.protocol.specs.State.{code}
 use Rattle.protocol.specs.Rules.{flushRule}
 use Rattle.protocol.specs.Coded.{busNumber}
 use Rattle.rows.specs.Cases.{audited}
