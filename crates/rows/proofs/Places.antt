@@ -148,26 +148,19 @@ snoop-stands b s v =
     let off : 168 + (busNumber b * 6 + n) - 168 ≡ busNumber b * 6 + n = omega arith in
     (omega (arith, inside), snoop-part _ (omega arith) (omega (arith, inside)) ∙ rw (off, first, second, turn, bus-turn b .1, state-turn s .1))
 
--- The short tables by their rows.
 take-stands : (s : State) → Stands (takeOver s)
-unfolding caseNumber caseAt stateInTurn
-take-stands I = (omega arith, refl)
-take-stands (S Through) = (omega arith, refl)
-take-stands (S Back) = (omega arith, refl)
-take-stands (E Through) = (omega arith, refl)
-take-stands (E Back) = (omega arith, refl)
-take-stands O = (omega arith, refl)
-take-stands M = (omega arith, refl)
+unfolding caseNumber
+take-stands s =
+    let turn = state-turn s in
+    let off : 210 + stateNumber s - 210 ≡ stateNumber s = omega arith in
+    (omega (arith, turn .0), taken-part _ (omega arith) (omega (arith, turn .0)) ∙ rw (off, turn .1))
 
 flush-stands : (s : State) → Stands (flush s)
-unfolding caseNumber caseAt stateInTurn
-flush-stands I = (omega arith, refl)
-flush-stands (S Through) = (omega arith, refl)
-flush-stands (S Back) = (omega arith, refl)
-flush-stands (E Through) = (omega arith, refl)
-flush-stands (E Back) = (omega arith, refl)
-flush-stands O = (omega arith, refl)
-flush-stands M = (omega arith, refl)
+unfolding caseNumber
+flush-stands s =
+    let turn = state-turn s in
+    let off : 217 + stateNumber s - 217 ≡ stateNumber s = omega arith in
+    (omega (arith, turn .0), flush-part _ (omega arith) (omega (arith, turn .0)) ∙ rw (off, turn .1))
 
 pub printed-stand : PrintedStand
 unfolding caseNumber caseAt printed
