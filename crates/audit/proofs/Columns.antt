@@ -17,7 +17,7 @@ use Rattle.protocol.specs.State.{isState, orInvalid, valid, owner, exclusive, i
 use Rattle.words.proofs.Bools.{Is, and-l, and-r, both, not-both, not-is, by-bool}
 use Rattle.protocol.proofs.States.{owner-valid, exclusive-valid, O-valid, mode-itself}
 use Rattle.shape.specs.declared.Shape.{Shape}
-use Rattle.shape.specs.Shape.{entries, indexOf, tagOf, entryOf}
+use Rattle.shape.specs.Shape.{entries, entryNumber, indexOf, tagOf, entryOf}
 use Rattle.model.specs.Tables.{Model, lentRefusal, stateAt, homeAt, sound, seen, wordAt, memoryAt, holds, owns}
 use Rattle.model.specs.Audit.{audit, Coherent}
 use Rattle.model.proofs.Below.{all-below, below-all}
@@ -137,7 +137,7 @@ module _ (s : Shape) (t : Model) (facts : Coherent s t) (x p : ℕ) (hx : x < s 
   tag-is = digits-div (tagBy s t x p) hx
 
   entry-is : (q : ℕ) → entryOf s line q ≡ numberBy s t x q
-  entry-is q = ap (λ (z : ℕ). q * s .sets + z) index-is
+  entry-is q = ap (entryNumber s q) index-is
 
   seen-is : (q : ℕ) → tagBy s t x q ≡ tagBy s t x p → seen s t line q ≡ stateBy s t x q
   seen-is q g = seen-here s t line q (ap (λ (k : ℕ). getD (t .tags) k 0) (entry-is q) ∙ g ∙ sym tag-is) ∙ ap (stateAt t) (entry-is q)

@@ -10,6 +10,7 @@ use Rattle.protocol.specs.declared.state.Byte.{Byte}
 use Rattle.protocol.specs.State.{stateOf, isState, valid, owner}
 use Rattle.words.proofs.Bools.{Is, and-l, and-r, both, or-l, or-r, by-bool, not-both, not-is}
 use Rattle.shape.specs.declared.Shape.{Shape}
+use Rattle.shape.specs.Shape.{entryNumber}
 use Rattle.model.specs.Tables.{Model, stateAt, memoryAt}
 use Rattle.model.proofs.Below.{all-below, below-all, none-below, below-none}
 use Rattle.audit.specs.declared.Held.{Held}
@@ -47,7 +48,7 @@ free-test false c st h k = h
 -- The entry of port q at index x.
 module _ (s : Shape) (t : Model) (x q : ℕ) where
   abbrev pub numberBy : ℕ
-  numberBy = q * s .sets + x
+  numberBy = entryNumber s q x
 
   abbrev pub tagBy : ℕ
   tagBy = getD (t .tags) numberBy 0

@@ -1,26 +1,30 @@
 -- What is read of a shape's entries in bytes, and the audit of what they hold. Assumes nothing.
-use Prim.Native.Nat.{ℕ, _+_, _*_, _<_}
-use mathlib.Core.Path.{_≡_, sym, _∙_}
+use Prim.Native.Nat.{ℕ, _<_}
+use mathlib.Core.Path.{_≡_, ap, sym, _∙_}
+use mathlib.Core.Bool.{Bool}
 use mathlib.Core.List.{List}
 use lib.ListN.{getD}
-use lib.Arith.{digits-lt}
-use native.Mathlib.Omega.{arith}
 use Rattle.protocol.specs.State.{stateOf}
 use Rattle.endian.specs.Little.{numbers}
 use Rattle.endian.proofs.Little.{get-numbers}
 use Rattle.shape.specs.declared.Shape.{Shape}
-use Rattle.shape.specs.Shape.{entries}
+use Rattle.shape.specs.Shape.{entries, entryNumber}
+use Rattle.model.specs.Tables.{Model}
 use Rattle.model.specs.Audit.{audit}
 use Rattle.ports.specs.Bytes.{Bytes, modelIn, tablesIn, Fitting}
 use Rattle.ports.specs.Entry.{tagIn, wordIn}
 use Rattle.ports.proofs.Bytes.{lent}
 use Rattle.audit.specs.declared.Held.{Held}
-use Rattle.audit.specs.Entries.{classOf, heldAt, columnsPass}
+use Rattle.audit.specs.Entries.{classOf, heldAt, heldBy, pairPasses, ownsAt, columnsPass}
 use Rattle.audit.proofs.Columns.{columns-audit}
 
--- The number of a lower port's entry at an index.
-pub in-column : {sets ports x p q : ℕ} → q < p → (x < sets) × (p < ports) → q * sets + x < ports * sets
-in-column l h = let k = h .1 in digits-lt (omega arith) (h .0)
+-- What a test says of an entry by its number, it says of a port's entry at an index.
+module _ (s : Shape) (q x : ℕ) {k : ℕ} (n : k ≡ entryNumber s q x) {b : Bool} where
+  pub pair-at : (t : Model) (e : Held) → b ≡ pairPasses e (heldAt t k) → b ≡ pairPasses e (heldBy s t x q)
+  pair-at t e c = c ∙ ap (λ (k : ℕ). pairPasses e (heldAt t k)) n
+
+  pub owns-at : (g h : List ℕ) (tag : ℕ) → b ≡ ownsAt g h tag k → b ≡ ownsAt g h tag (entryNumber s q x)
+  owns-at g h tag c = c ∙ ap (ownsAt g h tag) n
 
 -- An entry read, and a tag by itself.
 pub held-is : (s : Shape) (g h d : List ℕ) {k : ℕ} → k < entries s → {t n w : ℕ} → t ≡ tagIn g k

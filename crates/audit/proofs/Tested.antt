@@ -7,6 +7,7 @@ use lib.ListN.{getD}
 use lib.Dec.{eqb}
 use borrow.Author.Tests.{not-true, not-false, le-leb, lt-leb, eq-eqb, ne-eqb}
 use Rattle.shape.specs.declared.Shape.{Shape}
+use Rattle.shape.specs.Shape.{entryNumber}
 use Rattle.model.specs.Tables.{Model, memoryAt}
 use Rattle.audit.specs.declared.Held.{Held}
 use Rattle.audit.specs.Entries.{heldAt, heldBy, goesWith, pairPasses, belowPass, ownedAt, isOwner, passesWith, entryPasses}
@@ -23,7 +24,10 @@ module _ (e : Held) (t : Model) (k : ℕ) where
 
 -- One entry: it is I or no state; its home line isn't there; a lower port's entry doesn't go with it; memory has its word or it is an
 -- owner; or there is no telling but from the other ports.
-module _ (s : Shape) (t : Model) (x p : ℕ) {e : Held} (g : e ≡ heldBy s t x p) where
+module _ (s : Shape) (t : Model) (x p : ℕ) {k : ℕ} (number : k ≡ entryNumber s p x) {e : Held} (read : e ≡ heldAt t k) where
+  g : e ≡ heldBy s t x p
+  g = read ∙ ap (heldAt t) number
+
   pub tested-free : e .class < 8 → eqb (e .class) 0 ≡ entryPasses s t x p
   unfolding entryPasses passesWith
   tested-free l = rw (← g, lt-leb 8 (e .class) l)

@@ -12,6 +12,7 @@ use Rattle.protocol.specs.declared.state.Byte.{Byte}
 use Rattle.protocol.specs.declared.state.Byte.the-variants.{Of, No}
 use Rattle.protocol.specs.State.{stateOf}
 use Rattle.shape.specs.declared.Shape.{Shape}
+use Rattle.shape.specs.Shape.{entryNumber}
 use Rattle.model.specs.Below.{allBelow, anyBelow}
 use Rattle.model.specs.Tables.{Model, memoryAt}
 use Rattle.audit.specs.declared.Held.{Held}
@@ -43,7 +44,7 @@ unfoldable pub heldAt : Model → ℕ → Held
 heldAt t k = record { tag = getD (t .tags) k 0; class = classOf (stateOf (getD (t .states) k 0)); word = getD (t .words) k 0 }
 
 abbrev pub heldBy : Shape → Model → ℕ → ℕ → Held
-heldBy s t x q = heldAt t (q * s .sets + x)
+heldBy s t x q = heldAt t (entryNumber s q x)
 
 -- The classes n and m of two holders of one line are compatible: of one mode, neither E or M, and not both O or M.
 unfoldable pub compatible : ℕ → ℕ → Bool
@@ -63,7 +64,7 @@ unfoldable pub ownsAt : List ℕ → List ℕ → ℕ → ℕ → Bool
 ownsAt g h tag k = eqb (getD g k 0) tag && isOwner (classOf (stateOf (getD h k 0)))
 
 unfoldable pub ownedAt : Shape → List ℕ → List ℕ → ℕ → ℕ → Bool
-ownedAt s g h x tag = anyBelow (λ q. ownsAt g h tag (q * s .sets + x)) (s .ports)
+ownedAt s g h x tag = anyBelow (λ q. ownsAt g h tag (entryNumber s q x)) (s .ports)
 
 -- Entry e goes with the entry at index x of every port below p.
 unfoldable pub belowPass : Shape → Model → ℕ → ℕ → Held → Bool

@@ -5,11 +5,12 @@ use protocol::rules;
 use protocol::state;
 use shape::Shape;
 ghost use mathlib.Core.Path.{_≡_};
+ghost use mathlib.Core.Bool.{true};
 ghost use Prim.Native.Nat.{_*_, _<_};
 ghost use lib.ListN.{length};
 ghost use Rattle.endian.specs.Little.{numbers};
 ghost use Rattle.protocol.specs.State.{stateOf};
-ghost use Rattle.shape.specs.Shape.{entries};
+ghost use Rattle.shape.specs.Shape.{inRange, entries};
 ghost use Rattle.model.specs.Audit.{audit};
 ghost use Rattle.ports.specs.Bytes.{bytes, modelIn, tablesIn, Filled, Fitting};
 ghost use Rattle.audit.specs.Entries.{classOf, isOwner, heldAt, compatible, goesWith, pairPasses, belowPass, ownsAt, ownedAt, entryPasses, indexPasses};
@@ -95,14 +96,14 @@ fn below_pass(
     p: usize,
     e: Held,
 ) -> bool
+    requires { ⌜ inRange shape ≡ true ⌝ }
     requires { ⌜ Filled shape (now tags) (now states) (now words) ⌝ }
     requires { ⌜ (x < shape .sets) × (p < shape .ports) ⌝ }
     ensures { λ r. ⌜ r ≡ belowPass shape (tablesIn shape (now (tags .entry)) (now (states .entry)) (now (words .entry))) x p e ⌝ }
 {
-    let sets = shape.sets;
     let mut q = 0;
     while q < p {
-        let k = q * sets + x;
+        let k = shape.entry_number(q, x);
         if !pair_passes(shape, tags, states, words, k, e) {
             return false;
         }
@@ -122,15 +123,15 @@ fn owns_at(shape: Shape, tags: &[u8], states: &[u8], k: usize, tag: u32) -> bool
 
 // Some port's entry at index x has the tag given and is O or M.
 fn owned_at(shape: Shape, tags: &[u8], states: &[u8], x: usize, tag: u32) -> bool
+    requires { ⌜ inRange shape ≡ true ⌝ }
     requires { ⌜ (length (now tags) ≡ 4 * entries shape) × (length (now states) ≡ entries shape) ⌝ }
     requires { ⌜ x < shape .sets ⌝ }
     ensures { λ r. ⌜ r ≡ ownedAt shape (numbers 4 (entries shape) (now (tags .entry))) (now (states .entry)) x tag ⌝ }
 {
     let ports = shape.ports;
-    let sets = shape.sets;
     let mut port = 0;
     while port < ports {
-        let k = port * sets + x;
+        let k = shape.entry_number(port, x);
         if owns_at(shape, tags, states, k, tag) {
             return true;
         }
@@ -155,13 +156,12 @@ fn entry_passes(
     ensures { λ r. ⌜ r ≡ entryPasses shape
         (modelIn shape (bytes (now (memory .entry)) (now (tags .entry)) (now (states .entry)) (now (words .entry)))) x p ⌝ }
 {
-    let sets = shape.sets;
-    let k = p * sets + x;
+    let k = shape.entry_number(p, x);
     let e = held_at(shape, tags, states, words, k);
     if e.class < 8 {
         return e.class == 0;
     }
-    let home = entry::home_of(e.tag, sets, x);
+    let home = entry::home_of(e.tag, shape.sets, x);
     if home >= shape.lines {
         return false;
     }

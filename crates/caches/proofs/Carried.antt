@@ -1,5 +1,5 @@
 -- A decision carried out is the access of the model. Assumes nothing.
-use Prim.Native.Nat.{ℕ, zero, _+_, _*_, _<_}
+use Prim.Native.Nat.{ℕ, zero, _<_}
 use mathlib.Core.Path.{_≡_, refl, sym, _∙_}
 use mathlib.Core.Bool.{true, not}
 use mathlib.Core.List.{List}
@@ -15,7 +15,7 @@ use Rattle.protocol.specs.declared.rules.Rule.{Rule}
 use Rattle.protocol.specs.Coded.{busAt}
 use Rattle.protocol.proofs.Rows.{bus-below, bus-at}
 use Rattle.shape.specs.declared.Shape.{Shape}
-use Rattle.shape.specs.Shape.{entryOf}
+use Rattle.shape.specs.Shape.{entryNumber, entryOf}
 use Rattle.model.specs.Tables.{Model, sound, seen, wordAt, holds}
 use Rattle.model.specs.Step.{result, store, byteAnswered, wordAnswered, wordFound, evictsOwner, applied, accessRule}
 use Rattle.model.specs.Step.{accessed}
@@ -51,16 +51,17 @@ carried-accessed s pos t i a port acc m =
 pub carry-done : {l : Line} → Placed l → (b b′ : Bytes) (i : ℕ) (d : Decision) {u : Model}
     → u ≡ answered (l .shape) (tablesIn (l .shape) (b .tags) (b .states) (b .words)) (l .number) (inMask (d .others)) (busAt (d .bus)) (d .entry .word)
     (l .shape .ports)
-    → tablesIn (l .shape) (b′ .tags) (b′ .states) (b′ .words) ≡ putAt u (i * l .shape .sets + l .place .index) (d .entry)
+    → {k : ℕ} → k ≡ entryNumber (l .shape) i (l .place .index)
+    → tablesIn (l .shape) (b′ .tags) (b′ .states) (b′ .words) ≡ putAt u k (d .entry)
     → {m₁ : List ℕ} → m₁ ≡ store (d .evicts) (d .home) (d .evicted) (numbers 8 (l .shape .lines) (b .memory))
     → numbers 8 (l .shape .lines) (b′ .memory) ≡ store (d .stores) (l .number) (d .entry .word) m₁
     → modelIn (l .shape) b′ ≡ carried (l .shape) (modelIn (l .shape) b) i (l .number) d
 unfolding carried answered byteAnswered wordAnswered putAt wordAt seen tablesIn modelIn
-carry-done {l} v b b′ i d ea ep e₁ e₂ =
+carry-done {l} v b b′ i d ea ek ep e₁ e₂ =
     let s = l .shape in
     let a = l .number in
     let now : Model = answered s (tablesIn s (b .tags) (b .states) (b .words)) a (inMask (d .others)) (busAt (d .bus)) (d .entry .word) (s .ports) in
-    let tables : tablesIn s (b′ .tags) (b′ .states) (b′ .words) ≡ putAt now (entryOf s a i) (d .entry) = ep ∙ rw (ea, number-is v i) in
+    let tables : tablesIn s (b′ .tags) (b′ .states) (b′ .words) ≡ putAt now (entryOf s a i) (d .entry) = ep ∙ rw (ea, ek, number-is v i) in
     let memory : numbers 8 (s .lines) (b′ .memory)
     ≡ store (d .stores) a (d .entry .word) (store (d .evicts) (d .home) (d .evicted) (numbers 8 (s .lines) (b .memory))) = e₂ ∙ rw e₁ in
     held-together s b′ memory tables

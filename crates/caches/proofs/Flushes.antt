@@ -1,5 +1,5 @@
 -- A flush as the code makes it is the model's. Assumes nothing.
-use Prim.Native.Nat.{ℕ, zero, _+_, _*_, _<_}
+use Prim.Native.Nat.{ℕ, zero, _+_, _<_}
 use mathlib.Core.Path.{_≡_, refl, ap, sym, _∙_}
 use mathlib.Core.Bool.{Bool, false, cond, not}
 use mathlib.Core.List.{List}
@@ -17,7 +17,7 @@ use Rattle.protocol.proofs.States.{owner-valid}
 use Rattle.protocol.proofs.Kept.{flush-own, flush-bus}
 use Rattle.shape.specs.declared.Shape.{Shape}
 use Rattle.model.specs.declared.answer.Answer.{Answer}
-use Rattle.shape.specs.Shape.{entryOf}
+use Rattle.shape.specs.Shape.{entryNumber, entryOf}
 use Rattle.model.specs.Tables.{Model, model, seen, wordAt, holds, owns}
 use Rattle.model.specs.Step.{result, accepted, store, byteAnswered, wordAnswered, evictsOwner, byteAfter, wordAfter, applied, flushed}
 use Rattle.model.proofs.Entries.{seen-tag}
@@ -81,19 +81,19 @@ module _ {l : Line} (v : Placed l) (m g h d : List ℕ) (i : ℕ) (port : i < l 
   unfolding tablesIn
   unpacked = fine
 
-  emptied-bytes : (h′ : List ℕ) → Is (holds s t′ a i) → h′ ≡ set h (i * l .shape .sets + l .place .index) 0
+  emptied-bytes : (h′ : List ℕ) → Is (holds s t′ a i) → h′ ≡ set h (entryNumber s i (l .place .index)) 0
       → tablesIn s g h′ d ≡ ruled s (some v) t′ i a port (flushRule (seen s t′ a i)) (wordAt s t′ a i)
   unfolding tablesIn
   emptied-bytes h′ held e = rw (e, number-is v i) (emptied s (some v) t′ i a port unpacked held)
 
   pub flush-done : (m′ h′ : List ℕ) {held stores : Bool} → held ≡ holds s t′ a i → stores ≡ owns s t′ a i → {w : ℕ}
-      → w ≡ wordAt s t′ a i
-      → h′ ≡ cond held (set h (i * l .shape .sets + l .place .index) 0) h
+      → w ≡ wordAt s t′ a i → {k : ℕ} → k ≡ entryNumber s i (l .place .index)
+      → h′ ≡ cond held (set h k 0) h
       → numbers 8 (s .lines) m′ ≡ store stores a w (numbers 8 (s .lines) m) → {n : Answer}
       → n ≡ accepted 0 0 0 (0 + bit stores) → result n (modelIn s (bytes m′ g h′ d)) ≡ flushed s (modelIn s (bytes m g h d)) i a
-  flush-done m′ h′ {held} {stores} eh es {w} ew ehs em en =
+  flush-done m′ h′ {held} {stores} eh es {w} ew ek ehs em en =
       by-bool (holds s t′ a i)
-      (λ y. let eh′ : h′ ≡ set h (i * l .shape .sets + l .place .index) 0 = ehs ∙ rw (eh, y) in
+      (λ y. let eh′ : h′ ≡ set h (entryNumber s i (l .place .index)) 0 = ehs ∙ rw (eh, y, ek) in
       let em′ : numbers 8 (s .lines) m′ ≡ store (owns s t′ a i) a (wordAt s t′ a i) (numbers 8 (s .lines) m) = em ∙ rw (es, ew) in
       rw (en, zero-add, es, held-together s (bytes m′ g h′ d) em′ (emptied-bytes h′ y eh′)) (sym (flush-held s (bytes m g h d) i a (some v) port y)))
       (λ y. let o : owns s t′ a i ≡ false = not-true _ (contra (owns s t′ a i) (owner-valid (seen s t′ a i)) y) in

@@ -37,10 +37,10 @@ fn carry_out(
         i (line .number) d ⌝ }
 {
     let shape = line.shape;
-    let sets = shape.sets;
     let e = d.entry;
     bus::ask(tags, states, words, line, d.others, d.bus, e.word);
-    entry::put_entry(shape, tags, states, words, i * sets + line.place.index, e);
+    let at = shape.entry_number(i, line.place.index);
+    entry::put_entry(shape, tags, states, words, at, e);
     memory::store_if(memory, shape.lines, d.evicts, d.home, d.evicted);
     memory::store_if(memory, shape.lines, d.stores, line.number, e.word);
 }

@@ -44,8 +44,7 @@ pub fn flush_line(
 {
     let held = (said.holders >> i) % 2 == 1;
     let stores = (said.owners >> i) % 2 == 1;
-    let sets = line.shape.sets;
-    let at = i * sets + line.place.index;
+    let at = line.shape.entry_number(i, line.place.index);
     let w = entry::word_at(words, at);
     empty_if(states, held, at);
     memory::store_if(memory, line.shape.lines, stores, line.number, w);

@@ -20,7 +20,7 @@ use Rattle.protocol.specs.Coded.{coded}
 use Rattle.protocol.proofs.States.{not-valid}
 use Rattle.shape.specs.declared.Shape.{Shape}
 use Rattle.model.specs.declared.answer.Answer.{Answer}
-use Rattle.shape.specs.Shape.{entryOf}
+use Rattle.shape.specs.Shape.{entryNumber, entryOf}
 use Rattle.model.specs.Tables.{Model, stateAt, homeAt, sound, seen, wordAt, holds, dirty}
 use Rattle.model.specs.Step.{accepted, wordSupplied, shared, wordFound, fetches, evictsOwner, accessRule}
 use Rattle.model.specs.Step.{accessed}
@@ -65,12 +65,9 @@ module _ {l : Line} (v : Placed l) (g h d : List ℕ) (i : ℕ) (port : i < l .s
   abbrev t′ : Model
   t′ = tablesIn (l .shape) g h d
 
-  abbrev at : ℕ
-  at = i * l .shape .sets + l .place .index
-
-  module _ {e : Entry} (ee : e ≡ entryAt t′ at) where
+  module _ {k : ℕ} (ek : k ≡ entryNumber s i (l .place .index)) {e : Entry} (ee : e ≡ entryAt t′ k) where
     entry-own : e ≡ entryAt t′ (entryOf s a i)
-    entry-own = ee ∙ ap (entryAt t′) (number-is v i)
+    entry-own = ee ∙ ap (entryAt t′) (ek ∙ number-is v i)
 
     -- In a sound column its byte is a state.
     pub entry-state : {x : Masks} → x ≡ masksOf s t′ a → x .sound ≡ true → isState (stateOf (e .byte)) ≡ true

@@ -81,7 +81,8 @@ pub fn decide(
 {
     let sets = line.shape.sets;
     let index = line.place.index;
-    let e = entry::entry_at(line.shape, tags, states, words, i * sets + index);
+    let at = line.shape.entry_number(i, index);
+    let e = entry::entry_at(line.shape, tags, states, words, at);
     let own = (said.holders >> i) % 2;
     let hit = own == 1;
     let others = said.holders - (own << i);

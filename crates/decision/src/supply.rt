@@ -29,6 +29,5 @@ pub fn supplied_word(
         return entry::word_at(memory, line.number);
     }
     let p = mask::lowest_port(owners);
-    let sets = line.shape.sets;
-    entry::word_at(words, p * sets + line.place.index)
+    entry::word_at(words, line.shape.entry_number(p, line.place.index))
 }

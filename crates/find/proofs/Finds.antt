@@ -13,14 +13,14 @@ use Rattle.words.proofs.Bools.{by-cond}
 use Rattle.shape.specs.declared.Shape.{Shape}
 use Rattle.model.specs.declared.found.Found.{Found}
 use Rattle.model.specs.declared.found.Found.the-variants.{Refused, Holder, Memory}
-use Rattle.shape.specs.Shape.{refusalOf, entryOf}
+use Rattle.shape.specs.declared.Place.{Place}
+use Rattle.shape.specs.Shape.{entries, refusalOf, entryNumber, placeOf}
 use Rattle.model.specs.Below.{lowest}
 use Rattle.model.specs.Tables.{Model, model, lentRefusal, sound, seen, wordAt, memoryAt, holds, columnSound}
 use Rattle.model.specs.Find.{holderOr, find, wordsOf, view}
 use Rattle.model.proofs.Below.{lowest-cases}
-use Rattle.model.proofs.Entries.{entry-lt}
 use Rattle.model.proofs.Lent.{Lent, lent-facts}
-use Rattle.shape.proofs.Bounds.{some-sets}
+use Rattle.find.proofs.Links.{number-is}
 
 module _ (s : Shape) (t : Model) (a : ℕ) {r : ℕ} (e : r ≡ refusalOf s (length (t .memory)) (length (t .tags)) (length (t .states))
     (length (t .words))) where
@@ -86,16 +86,17 @@ module _ (s : Shape) (t : Model) (a : ℕ) where
     unfolding view
     view-none n g = ap (wordsOf s t a) (sym g ∙ f)
 
-    pub view-port : (p : ℕ) {k : ℕ} {l : List ℕ} → d ≡ Holder p → k ≡ entryOf s a p → l ≡ getD (t .words) k 0 ∷ [] → l ≡ view s t a
+    pub view-port : (p : ℕ) {x : Place} {k : ℕ} {l : List ℕ} → d ≡ Holder p → x ≡ placeOf s a → k ≡ entryNumber s p (x .index)
+        → l ≡ getD (t .words) k 0 ∷ [] → l ≡ view s t a
     unfolding view wordAt
-    view-port p g ek el = el ∙ ap (λ (k : ℕ). getD (t .words) k 0 ∷ []) ek ∙ ap (wordsOf s t a) (sym g ∙ f)
+    view-port p g ex n el = el ∙ ap (λ (k : ℕ). getD (t .words) k 0 ∷ []) (number-is s a p ex n) ∙ ap (wordsOf s t a) (sym g ∙ f)
 
     pub view-memory : {l : List ℕ} → d ≡ Memory → l ≡ memoryAt t a ∷ [] → l ≡ view s t a
     unfolding view
     view-memory g el = el ∙ ap (wordsOf s t a) (sym g ∙ f)
 
-pub in-words : (s : Shape) (t : Model) (a p : ℕ) → There s t a p → entryOf s a p < length (t .words)
-in-words s t a p h = omega (arith, entry-lt s (some-sets s (h .lent .range)) a p (h .port), h .lent .sizes .words)
+pub in-words : (s : Shape) (t : Model) (a p : ℕ) → There s t a p → {k : ℕ} → k < entries s → k < length (t .words)
+in-words s t a p h q = omega (arith, q, h .lent .sizes .words)
 
 pub in-memory : (s : Shape) (t : Model) (a : ℕ) → Lent s t × a < s .lines → a < length (t .memory)
 in-memory s t a h = omega (arith, h .0 .sizes .memory, h .1)

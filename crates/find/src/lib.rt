@@ -3,25 +3,14 @@ use model::found::Found;
 use protocol::state;
 use shape::Shape;
 ghost use mathlib.Core.Path.{_≡_};
-ghost use mathlib.Core.Bool.{true};
 ghost use mathlib.Core.List.{[], _∷_};
 ghost use Prim.Native.Nat.{_<_};
 ghost use lib.ListN.{getD, length};
-ghost use Rattle.shape.specs.Shape.{inRange, entries, entryOf};
+ghost use Rattle.shape.specs.Shape.{entryOf};
 ghost use Rattle.model.specs.Below.{lowest};
 ghost use Rattle.model.specs.Tables.{model, sound, holds, columnSound};
 ghost use Rattle.model.specs.Find.{holderOr, find, view};
 ghost use Rattle.find.specs.Ready.{Ready};
-
-// The number of port p's entry for line a.
-fn entry_number(shape: Shape, a: usize, p: usize) -> usize
-    requires { ⌜ (inRange shape ≡ true) × (a < shape .lines) ⌝ }
-    requires { ⌜ p < shape .ports ⌝ }
-    ensures { λ r. ⌜ (r ≡ entryOf shape a p) × (r < entries shape) ⌝ }
-{
-    let at = shape.place(a);
-    p * shape.sets + at.index
-}
 
 // Port p's entry for line a is sound: its byte is a state, and it is I or has a home line below lines.
 fn sound_at(shape: Shape, tags: &[u32], states: &[u8], a: usize, p: usize) -> bool
@@ -30,7 +19,7 @@ fn sound_at(shape: Shape, tags: &[u32], states: &[u8], a: usize, p: usize) -> bo
     ensures { λ r. ⌜ r ≡ sound shape (model [] (now (tags .entry)) (now (states .entry)) []) (entryOf shape a p) ⌝ }
 {
     let at = shape.place(a);
-    let k = entry_number(shape, a, p);
+    let k = shape.entry_number(p, at.index);
     let s = state::byte_state(states[k]);
     state::is_state(s) & (!state::is_valid(s) | (tags[k] < at.limit))
 }
@@ -42,7 +31,7 @@ fn holds_at(shape: Shape, tags: &[u32], states: &[u8], a: usize, p: usize) -> bo
     ensures { λ r. ⌜ r ≡ holds shape (model [] (now (tags .entry)) (now (states .entry)) []) a p ⌝ }
 {
     let at = shape.place(a);
-    let k = entry_number(shape, a, p);
+    let k = shape.entry_number(p, at.index);
     (tags[k] == at.tag) & state::is_valid(state::byte_state(states[k]))
 }
 
@@ -125,8 +114,8 @@ pub fn view_line<'a>(
     match found {
         Found::Refused(_) => &memory[0..0],
         Found::Holder(p) => {
-            let k = entry_number(shape, a, p);
-            one_word(data, k)
+            let at = shape.place(a);
+            one_word(data, shape.entry_number(p, at.index))
         }
         Found::Memory => one_word(memory, a),
     }

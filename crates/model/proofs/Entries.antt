@@ -17,7 +17,7 @@ use Rattle.protocol.specs.declared.state.State.the-variants.{I}
 use Rattle.protocol.specs.State.{valid}
 use Rattle.words.proofs.Bools.{Is}
 use Rattle.shape.specs.declared.Shape.{Shape}
-use Rattle.shape.specs.Shape.{entries, indexOf, tagOf, entryOf}
+use Rattle.shape.specs.Shape.{entries, entryNumber, indexOf, tagOf, entryOf}
 use Rattle.model.specs.Tables.{Model, stateAt, homeAt, seen, holds}
 use Rattle.model.specs.Step.{putBelow}
 
@@ -121,7 +121,7 @@ module _ (s : Shape) (pos : zero < s .sets) (a b : ℕ) (other : b ≢ a) (near 
   tags-differ e = other (same-line s pos b a (sym e) near)
 
   pub same-entry : (p : ℕ) → entryOf s b p ≡ entryOf s a p
-  same-entry p = ap (λ x. p * s .sets + x) near
+  same-entry p = ap (entryNumber s p) near
 
   pub same-at : (p : ℕ) (l : List ℕ) → getD l (entryOf s b p) 0 ≡ getD l (entryOf s a p) 0
   same-at p l = ap (λ k. getD l k 0) (same-entry p)

@@ -1,5 +1,5 @@
 -- Tables that an order touches at one line, and what that leaves of every line. Assumes nothing.
-use Prim.Native.Nat.{ℕ, zero, _+_, _*_, _/_, _%_, _<_}
+use Prim.Native.Nat.{ℕ, zero, _/_, _%_, _<_}
 use mathlib.Core.Path.{_≡_, refl, sym, _∙_, ap, subst}
 use mathlib.Core.Logic.{_≢_}
 use mathlib.Core.Bool.{Bool, false, not, false≢true}
@@ -13,7 +13,7 @@ use Rattle.protocol.specs.State.{code, stateOf, isState, valid}
 use Rattle.words.proofs.Bools.{Is, or-r, both, by-bool}
 use Rattle.protocol.proofs.States.{owner-valid, not-valid, stateOf-code}
 use Rattle.shape.specs.declared.Shape.{Shape}
-use Rattle.shape.specs.Shape.{entries, indexOf, tagOf, entryOf}
+use Rattle.shape.specs.Shape.{entries, entryNumber, indexOf, tagOf, entryOf}
 use Rattle.model.specs.Tables.{Model, stateAt, homeAt, sound, seen, wordAt, memoryAt, holds, owns}
 use Rattle.model.proofs.Line.{Good, Unowned, gone-good}
 use Rattle.model.proofs.Entries.{Sized, entry-index, seen-tag, seen-here, seen-away, seen-cong, tags-differ, same-entry, same-at, holds-one}
@@ -148,7 +148,7 @@ module _ (s : Shape) (pos : zero < s .sets) (t t′ : Model) (takes : ℕ → Bo
   tidy-after line was = record {
     entry = λ k h.
         elim (ℕ-discrete (k % s .sets) (indexOf s a)) [
-          | yes e ↦ (let there : k ≡ entryOf s a (k / s .sets) = sym (div-add-mod' k (s .sets)) ∙ ap (λ x. k / s .sets * s .sets + x) e in
+          | yes e ↦ (let there : k ≡ entryOf s a (k / s .sets) = sym (div-add-mod' k (s .sets)) ∙ ap (entryNumber s (k / s .sets)) e in
               subst (λ x. Is (sound s t′ x)) (sym there) (sound-at line (k / s .sets) (div-lt-iff-lt-mul pos .1 h)
               (subst (λ x. Is (sound s t x)) there (was .entry k h))))
           | no d ↦ sound-cong k (touched .bytes-apart k d) (touched .tags-apart k d) (was .entry k h)

@@ -12,7 +12,7 @@ use Rattle.endian.specs.Little.{numbers, bytesOf}
 use Rattle.endian.proofs.Little.{get-numbers, set-numbers}
 use Rattle.shape.specs.declared.Shape.{Shape}
 use Rattle.shape.specs.declared.Place.{Place}
-use Rattle.shape.specs.Shape.{inRange, entries, indexOf, tagOf, entryOf, tagLimit, placeOf}
+use Rattle.shape.specs.Shape.{inRange, entries, entryNumber, indexOf, tagOf, entryOf, tagLimit, placeOf}
 use Rattle.shape.proofs.Bounds.{bounded, limit-is, some-sets}
 use Rattle.model.proofs.Entries.{entry-lt}
 use Rattle.ports.specs.declared.line.Line.{Line}
@@ -59,13 +59,13 @@ module _ {l : Line} (v : Placed l) where
       (div-add-mod' a (s .sets)) (lt-ltb a (s .lines) (v .below))))
 
   module _ (p : ℕ) where
-    pub number-is : p * l .shape .sets + l .place .index ≡ entryOf (l .shape) (l .number) p
-    number-is = ap (λ (x : ℕ). p * l .shape .sets + x) index-is
+    pub number-is : entryNumber (l .shape) p (l .place .index) ≡ entryOf (l .shape) (l .number) p
+    number-is = ap (entryNumber (l .shape) p) index-is
 
-    pub there : p < l .shape .ports → p * l .shape .sets + l .place .index < entries (l .shape)
+    pub there : p < l .shape .ports → entryNumber (l .shape) p (l .place .index) < entries (l .shape)
     there q = rw number-is (entry-lt (l .shape) some (l .number) p q)
 
-    pub small : p < l .shape .ports → p * l .shape .sets + l .place .index < 512
+    small : p < l .shape .ports → entryNumber (l .shape) p (l .place .index) < 512
     small q = omega (arith, there q, bounded (l .shape) (v .range) .entries-most)
 
 -- The number that runs beside a loop over the ports: at port p it is that of the port's entry for the line, and the port's part of the tables
@@ -75,10 +75,10 @@ pub record Running (l : Line) (p k : ℕ) : Type 0 where
   pub part : k - l .place .index ≡ p * l .shape .sets
 
 module _ {l : Line} (v : Placed l) where
-  running : (p : ℕ) {k : ℕ} → k ≡ p * l .shape .sets + l .place .index → Running l p k
+  running : (p : ℕ) {k : ℕ} → k ≡ entryNumber (l .shape) p (l .place .index) → Running l p k
   running p e = record { number = e ∙ number-is v p; part = omega (arith, e) }
 
-  at-entry : {p k : ℕ} → Running l p k → k ≡ p * l .shape .sets + l .place .index
+  at-entry : {p k : ℕ} → Running l p k → k ≡ entryNumber (l .shape) p (l .place .index)
   at-entry {p} u = u .number ∙ sym (number-is v p)
 
   -- The entry is there, and its number fits.

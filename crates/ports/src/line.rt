@@ -7,7 +7,7 @@ ghost use Prim.Native.Nat.{_<_};
 ghost use Rattle.shape.specs.Shape.{inRange};
 ghost use Rattle.ports.specs.Line.{lineOf};
 
-// Line `number` of the shape. Port p's entry for it has the number p * sets + index, and holds the line where it isn't I and has the
+// Line `number` of the shape. Port p's entry for it is the one at the place's index, and holds the line where it isn't I and has the
 // place's tag. An entry at this index with a tag below the limit has a home line below lines.
 pub struct Line {
     pub shape: Shape,

@@ -38,6 +38,10 @@ inRange s = within 1 8 (s .ports) && isSets (s .sets) && within 1 4096 (s .lines
 abbrev pub entries : Shape → ℕ
 entries s = s .ports * s .sets
 
+-- The number of port p's entry at an index: port × sets + index.
+abbrev pub entryNumber : Shape → ℕ → ℕ → ℕ
+entryNumber s p index = p * s .sets + index
+
 -- Main memory and the three tables, of the lengths given, have exactly those that the shape gives.
 unfoldable pub fits : Shape → ℕ → ℕ → ℕ → ℕ → Bool
 fits s memory tags states words = eqb memory (s .lines) && eqb tags (entries s) && eqb states (entries s) && eqb words (entries s)
@@ -66,9 +70,9 @@ indexOf s a = a % s .sets
 abbrev pub tagOf : Shape → ℕ → ℕ
 tagOf s a = a / s .sets
 
--- The number of port p's entry for line a.
+-- The number of port p's entry for line a: the one at the line's index.
 abbrev pub entryOf : Shape → ℕ → ℕ → ℕ
-entryOf s a p = p * s .sets + indexOf s a
+entryOf s a p = entryNumber s p (indexOf s a)
 
 -- How many lines have the index of line a: an entry there has a home line below lines exactly where its tag is below this.
 abbrev pub tagLimit : Shape → ℕ → ℕ

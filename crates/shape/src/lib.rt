@@ -5,7 +5,7 @@ use range::Range;
 ghost use mathlib.Core.Path.{_≡_};
 ghost use mathlib.Core.Bool.{true};
 ghost use Prim.Native.Nat.{_<_, _≤_, _+_, _-_, _/_, _%_, _^_};
-ghost use Rattle.shape.specs.Shape.{unranged, isSets, inRange, entries, fits, rangesEmpty, rangesEnd, fitRefusal, refusalOf, placeOf};
+ghost use Rattle.shape.specs.Shape.{unranged, isSets, inRange, entries, entryNumber, fits, rangesEmpty, rangesEnd, fitRefusal, refusalOf, placeOf};
 
 // How many ports there are, how many sets each port's direct-mapped cache has, and how many lines main memory has; the lines on which every
 // access runs write back, and those on which it runs write through, if they are not scratch. (Document 01's word shape.)
@@ -85,6 +85,15 @@ impl Shape {
         ensures { λ r. ⌜ r ≡ entries self ⌝ }
     {
         self.ports * self.sets
+    }
+
+    // The number of port p's entry at an index: the port's entries lie together, one for each index.
+    pub fn entry_number(self, p: usize, index: usize) -> usize
+        requires { ⌜ inRange self ≡ true ⌝ }
+        requires { ⌜ (p < self .ports) × (index < self .sets) ⌝ }
+        ensures { λ r. ⌜ (r ≡ entryNumber self p index) × (r < entries self) ⌝ }
+    {
+        p * self.sets + index
     }
 
     // The lengths of main memory and of the tables are those of the shape.

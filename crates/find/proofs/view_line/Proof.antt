@@ -1,25 +1,28 @@
 -- The part handed back is the word that finding names, and that word is there. Assumes nothing.
 use borrow.Author.Needs.{needs}
 use native.Mathlib.Omega.{arith}
+use Rattle.find.proofs.Links.{index-below}
 use Rattle.find.proofs.Finds.{port-there, memory-there, in-words, in-memory, view-none, view-port, view-memory}
 use Rattle.find.proofs.view_line.Statement.{statement}
 use Rattle.find.proofs.view_line.Tie as tie
 
-entry-number-requires : tie.Need-entry-number-requires
-entry-number-requires c κs =
+-- The port that finding names is there.
+place-requires : tie.Need-place-requires
+place-requires c κs =
     let after-find-line : tie.After-find-line = search in
     let h = port-there _ _ _ (after-find-line .find-line .ensures) _ (c .before .found .given .1) in
-    ((h .lent .range, h .line), omega (arith, h .port))
+    (h .lent .range, h .line)
+
+entry-number-requires : tie.Need-entry-number-requires
+entry-number-requires c κs =
+    let after-place : tie.After-place = search in let after-found : tie.After-found = search in let after-find-line : tie.After-find-line = search in
+    let h = port-there _ _ _ (after-find-line .find-line .ensures) _ (after-found .found .given .1) in
+    (h .lent .range, (omega (arith, h .port), index-below _ _ (after-place .place .ensures) (h .lent .range)))
 
 one-word-requires : tie.Need-one-word-requires
 one-word-requires c κs =
-    let after-found : tie.After-found = search in let after-find-line : tie.After-find-line = search in
-    omega (
-      arith,
-      c .entry-number .ensures,
-      in-words _ _ _ _ (port-there _ _ _ (after-find-line .find-line .ensures) _
-          (after-found .found .given .1)),
-    )
+    let number : tie.After-entry-number = search in let after-found : tie.After-found = search in let after-find-line : tie.After-find-line = search in
+    in-words _ _ _ _ (port-there _ _ _ (after-find-line .find-line .ensures) _ (after-found .found .given .1)) (number .entry-number .ensures .1)
 
 one-word-requires-2 : tie.Need-one-word-requires-2
 one-word-requires-2 c κs =
@@ -39,4 +42,4 @@ pub view-line-spec : {M : Type 1} → statement M
 view-line-spec =
     tie.close
     (tie.spec (λ c κs. search needs) (λ c. search needs) (λ c. search needs) (λ c. search needs) (λ c. search needs) (λ c. search needs)
-    entry-number-requires one-word-requires (λ c. search needs) one-word-requires-2 returns returns-2 returns-3)
+    place-requires entry-number-requires one-word-requires (λ c. search needs) one-word-requires-2 returns returns-2 returns-3)
