@@ -6,11 +6,11 @@ use protocol::state;
 use shape::Shape;
 ghost use mathlib.Core.Path.{_≡_};
 ghost use mathlib.Core.Bool.{true};
-ghost use Prim.Native.Nat.{_*_, _<_};
+ghost use Prim.Native.Nat.{_<_};
 ghost use lib.ListN.{length};
 ghost use Rattle.endian.specs.Little.{numbers};
 ghost use Rattle.protocol.specs.State.{stateOf};
-ghost use Rattle.shape.specs.Shape.{inRange, entries};
+ghost use Rattle.shape.specs.Shape.{inRange, entries, tagsBytes, statesBytes};
 ghost use Rattle.model.specs.Audit.{audit};
 ghost use Rattle.ports.specs.Bytes.{bytes, modelIn, tablesIn, Filled, Fitting};
 ghost use Rattle.audit.specs.Entries.{classOf, isOwner, heldAt, compatible, goesWith, pairPasses, belowPass, ownsAt, ownedAt, entryPasses, indexPasses};
@@ -114,7 +114,7 @@ fn below_pass(
 
 // Entry k has the tag given and is O or M.
 fn owns_at(shape: Shape, tags: &[u8], states: &[u8], k: usize, tag: u32) -> bool
-    requires { ⌜ (length (now tags) ≡ 4 * entries shape) × (length (now states) ≡ entries shape) ⌝ }
+    requires { ⌜ (length (now tags) ≡ tagsBytes shape) × (length (now states) ≡ statesBytes shape) ⌝ }
     requires { ⌜ k < entries shape ⌝ }
     ensures { λ r. ⌜ r ≡ ownsAt (numbers 4 (entries shape) (now (tags .entry))) (now (states .entry)) tag k ⌝ }
 {
@@ -124,7 +124,7 @@ fn owns_at(shape: Shape, tags: &[u8], states: &[u8], k: usize, tag: u32) -> bool
 // Some port's entry at index x has the tag given and is O or M.
 fn owned_at(shape: Shape, tags: &[u8], states: &[u8], x: usize, tag: u32) -> bool
     requires { ⌜ inRange shape ≡ true ⌝ }
-    requires { ⌜ (length (now tags) ≡ 4 * entries shape) × (length (now states) ≡ entries shape) ⌝ }
+    requires { ⌜ (length (now tags) ≡ tagsBytes shape) × (length (now states) ≡ statesBytes shape) ⌝ }
     requires { ⌜ x < shape .sets ⌝ }
     ensures { λ r. ⌜ r ≡ ownedAt shape (numbers 4 (entries shape) (now (tags .entry))) (now (states .entry)) x tag ⌝ }
 {

@@ -1,5 +1,5 @@
 -- Laws of the lengths of what is lent, and of refusals 2, 3 and 12. Assumes nothing.
-use Prim.Native.Nat.{ℕ, _*_}
+use Prim.Native.Nat.{ℕ}
 use mathlib.Core.Path.{_≡_, refl, sym, _∙_}
 use mathlib.Core.Logic.{_≢_}
 use mathlib.Core.Bool.{Bool, true, false, cond, _&&_, false≢true}
@@ -8,28 +8,39 @@ use borrow.Author.Tests.{eqb-true}
 use Rattle.words.proofs.Bools.{Is, and-l, and-r}
 use Rattle.shape.specs.declared.Shape.{Shape}
 use Rattle.shape.specs.Range.{endsBy}
-use Rattle.shape.specs.Shape.{withoutRanges, inRange, entries, rangesEnd, fitRefusal}
+use Rattle.shape.specs.Shape.{withoutRanges, inRange, memoryBytes, tagsBytes, statesBytes, dataBytes, rangesEnd, fitRefusal}
 use Rattle.shape.proofs.Refusals.{accepted-all, not-nine}
 use Rattle.lengths.specs.Lengths.{tablesFit, bytesFit, refusalBy}
 
+-- Lengths held against those that the shape gives.
+pub tables-held : (s : Shape) (tags states words : ℕ) {g h d : ℕ} → g ≡ tagsBytes s → h ≡ statesBytes s → d ≡ dataBytes s
+    → (eqb tags g && eqb states h && eqb words d) ≡ tablesFit s tags states words
+unfolding tablesFit
+tables-held s tags states words eg eh ed = rw (eg, eh, ed)
+
+pub bytes-held : (s : Shape) (memory tags states words : ℕ) {m : ℕ} {t : Bool} → m ≡ memoryBytes s → t ≡ tablesFit s tags states words
+    → (eqb memory m && t) ≡ bytesFit s memory tags states words
+unfolding bytesFit
+bytes-held s memory tags states words em et = rw (em, et)
+
 -- Tables that fit, length by length.
 pub tables-fitting : (s : Shape) (tags states words : ℕ) → Is (tablesFit s tags states words)
-    → (tags ≡ 4 * entries s) × (states ≡ entries s) × (words ≡ 8 * entries s)
+    → (tags ≡ tagsBytes s) × (states ≡ statesBytes s) × (words ≡ dataBytes s)
 unfolding tablesFit
 tables-fitting s tags states words f =
-    let g = eqb tags (4 * entries s) in
-    let h = eqb states (entries s) in
-    let d = eqb words (8 * entries s) in
+    let g = eqb tags (tagsBytes s) in
+    let h = eqb states (statesBytes s) in
+    let d = eqb words (dataBytes s) in
     let gh = and-l (g && h) d f in (eqb-true _ _ (and-l g h gh), eqb-true _ _ (and-r g h gh), eqb-true _ _ (and-r (g && h) d f))
 
 -- All that refusal 0 says of what is lent.
 pub record Fits (s : Shape) (memory tags states words : ℕ) (out : Bool) : Type 0 where
   pub range : Is (inRange s)
   pub ends : Is (rangesEnd s)
-  pub memory-fits : memory ≡ 8 * s .lines
-  pub tags-fit : tags ≡ 4 * entries s
-  pub states-fit : states ≡ entries s
-  pub words-fit : words ≡ 8 * entries s
+  pub memory-fits : memory ≡ memoryBytes s
+  pub tags-fit : tags ≡ tagsBytes s
+  pub states-fit : states ≡ statesBytes s
+  pub words-fit : words ≡ dataBytes s
   pub out-fits : Is out
 
 module _ (s : Shape) (memory tags states words : ℕ) (out : Bool) where
@@ -37,7 +48,7 @@ module _ (s : Shape) (memory tags states words : ℕ) (out : Bool) where
   unfolding bytesFit refusalBy
   accepted-fits e =
       let a = accepted-all s (bytesFit s memory tags states words && out) e in
-      let m = eqb memory (8 * s .lines) in
+      let m = eqb memory (memoryBytes s) in
       let g = tablesFit s tags states words in
       let z : Is (m && g) = and-l (m && g) out (a .1) in
       let t = tables-fitting s tags states words (and-r m g z) in

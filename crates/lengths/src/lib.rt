@@ -10,8 +10,7 @@ pub fn tables_fit(shape: Shape, tags: usize, states: usize, data: usize) -> bool
     requires { ⌜ inRange shape ≡ true ⌝ }
     ensures { λ r. ⌜ r ≡ tablesFit shape tags states «data» ⌝ }
 {
-    let n = shape.entries();
-    (tags == 4 * n) & (states == n) & (data == 8 * n)
+    (tags == shape.tags_bytes()) & (states == shape.states_bytes()) & (data == shape.data_bytes())
 }
 
 // Main memory has its length too.
@@ -19,7 +18,7 @@ fn bytes_fit(shape: Shape, memory: usize, tags: usize, states: usize, data: usiz
     requires { ⌜ inRange shape ≡ true ⌝ }
     ensures { λ r. ⌜ r ≡ bytesFit shape memory tags states «data» ⌝ }
 {
-    (memory == 8 * shape.lines) & tables_fit(shape, tags, states, data)
+    (memory == shape.memory_bytes()) & tables_fit(shape, tags, states, data)
 }
 
 // Refusal 2, 3 or 12 of a shape and the lengths of the slices, else 0; out says that the slice written to has its length.

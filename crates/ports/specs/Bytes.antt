@@ -1,12 +1,12 @@
 -- Main memory and the three tables as little-endian bytes, eight for a word, four for a tag, one for a state; and the model that they hold.
-use Prim.Native.Nat.{ℕ, _*_}
+use Prim.Native.Nat.{ℕ}
 use mathlib.Core.Path.{_≡_}
 use mathlib.Core.Bool.{true}
 use mathlib.Core.List.{List, []}
 use lib.ListN.{length}
 use Rattle.endian.specs.Little.{numbers}
 use Rattle.shape.specs.declared.Shape.{Shape}
-use Rattle.shape.specs.Shape.{inRange, entries, rangesEnd}
+use Rattle.shape.specs.Shape.{inRange, entries, memoryBytes, tagsBytes, statesBytes, dataBytes, rangesEnd}
 use Rattle.model.specs.Tables.{Model, model}
 
 pub record Bytes : Type 0 where
@@ -28,13 +28,13 @@ tablesIn s tags states words = model [] (numbers 4 (entries s) tags) states (num
 
 -- The tables' bytes are as many as the shape's entries have.
 pub record Filled (s : Shape) (tags states words : List ℕ) : Type 0 where
-  pub tags-fit : length tags ≡ 4 * entries s
-  pub states-fit : length states ≡ entries s
-  pub words-fit : length words ≡ 8 * entries s
+  pub tags-fit : length tags ≡ tagsBytes s
+  pub states-fit : length states ≡ statesBytes s
+  pub words-fit : length words ≡ dataBytes s
 
 -- The shape is within its limits, its ranges end within lines, and memory's bytes and the tables' are as many as it gives.
 pub record Fitting (s : Shape) (b : Bytes) : Type 0 where
   pub range : inRange s ≡ true
   pub ends : rangesEnd s ≡ true
-  pub memory-fits : length (b .memory) ≡ 8 * s .lines
+  pub memory-fits : length (b .memory) ≡ memoryBytes s
   pub filled : Filled s (b .tags) (b .states) (b .words)

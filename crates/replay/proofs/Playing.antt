@@ -1,5 +1,5 @@
 -- What a trace yields, from what the code's parts yield. Assumes nothing.
-use Prim.Native.Nat.{ℕ, zero, suc, _*_, _-_, _≤_}
+use Prim.Native.Nat.{ℕ, zero, suc, _-_, _≤_}
 use mathlib.Core.Path.{_≡_, refl, ap, _∙_}
 use mathlib.Core.Logic.{_≢_}
 use mathlib.Core.Bool.{Bool, true}
@@ -8,7 +8,7 @@ use native.Mathlib.Omega.{arith}
 use lib.ListN.{length, take, drop, replicate}
 use borrow.Author.Tests.{eq-eqb, ne-eqb}
 use Rattle.shape.specs.declared.Shape.{Shape}
-use Rattle.shape.specs.Shape.{entries, inRange, rangesEnd}
+use Rattle.shape.specs.Shape.{inRange, entries, memoryBytes, tagsBytes, statesBytes, dataBytes, rangesEnd}
 use Rattle.model.specs.Tables.{Model}
 use Rattle.model.specs.Fresh.{zeroed}
 use Rattle.model.specs.Audit.{audit}
@@ -43,40 +43,50 @@ unfolding numbers
 numbers-zeros w zero n = refl
 numbers-zeros w (suc k) n = rw (number-zeros w n, drop-zeros w n, numbers-zeros w k (n - w))
 
-module _ (s : Shape) (h : inRange s ≡ true) where
-  pub memory-few : 8 * s .lines ≤ 32768
-  memory-few = omega (arith, bounded s h .lines)
+-- Memory and tables of a shape have at most these bytes.
+module _ (s : Shape) (h : inRange s ≡ true) {n : ℕ} where
+  pub memory-few : n ≡ memoryBytes s → n ≤ 32768
+  memory-few e = omega (arith, e, bounded s h .lines)
 
-  module _ {n : ℕ} (e : n ≡ entries s) where
-    pub entries-few : n ≤ 512
-    entries-few = omega (arith, e, bounded s h .entries-most)
+  pub tags-few : n ≡ tagsBytes s → n ≤ 2048
+  tags-few e = omega (arith, e, bounded s h .entries-most)
 
-    -- The zeros that are lent.
-    abbrev pub zeroBytes : Bytes
-    zeroBytes = bytes (take (8 * s .lines) (replicate 32768 0)) (take (4 * n) (replicate 2048 0)) (take n (replicate 512 0)) (take (8 * n) (replicate 4096 0))
+  pub states-few : n ≡ statesBytes s → n ≤ 512
+  states-few e = omega (arith, e, bounded s h .entries-most)
 
-    -- Slices of these lengths fit the shape, whatever they hold.
-    pub start-fits : rangesEnd s ≡ true → {m g t d : List ℕ} → length m ≡ 8 * s .lines → length g ≡ 4 * n → length t ≡ n → length d ≡ 8 * n → Fitting s (bytes m g t d)
-    start-fits ends em eg et ed = record {
-      range = h;
-      ends = ends;
-      memory-fits = em;
-      filled = record { tags-fit = eg ∙ ap (λ (x : ℕ). 4 * x) e; states-fit = et ∙ e; words-fit = ed ∙ ap (λ (x : ℕ). 8 * x) e };
-    }
+  pub data-few : n ≡ dataBytes s → n ≤ 4096
+  data-few e = omega (arith, e, bounded s h .entries-most)
 
-    pub start-is : modelIn s zeroBytes ≡ start s
-    unfolding start zeroed modelIn
-    start-is =
-        rw (
-          zeros (8 * s .lines) 32768 memory-few,
-          zeros (4 * n) 2048 (omega (arith, entries-few)),
-          zeros n 512 entries-few,
-          zeros (8 * n) 4096 (omega (arith, entries-few)),
-          numbers-zeros 8 (s .lines) (8 * s .lines),
-          numbers-zeros 4 (entries s) (4 * n),
-          numbers-zeros 8 (entries s) (8 * n),
-          e,
-        )
+-- The bytes that are lent.
+module _ (s : Shape) (h : inRange s ≡ true) {m g t d : ℕ} (em : m ≡ memoryBytes s) (eg : g ≡ tagsBytes s) (et : t ≡ statesBytes s)
+    (ed : d ≡ dataBytes s) where
+  -- Slices of these lengths fit the shape, whatever they hold.
+  pub start-fits : rangesEnd s ≡ true → {ms gs ts ds : List ℕ} → length ms ≡ m → length gs ≡ g → length ts ≡ t → length ds ≡ d
+      → Fitting s (bytes ms gs ts ds)
+  start-fits ends lm lg lt ld = record {
+    range = h;
+    ends = ends;
+    memory-fits = lm ∙ em;
+    filled = record { tags-fit = lg ∙ eg; states-fit = lt ∙ et; words-fit = ld ∙ ed };
+  }
+
+  -- Zeros are the start.
+  abbrev zeroBytes : Bytes
+  zeroBytes = bytes (take m (replicate 32768 0)) (take g (replicate 2048 0)) (take t (replicate 512 0)) (take d (replicate 4096 0))
+
+  pub start-is : modelIn s zeroBytes ≡ start s
+  unfolding start zeroed modelIn
+  start-is =
+      rw (
+        zeros m 32768 (memory-few s h em),
+        zeros g 2048 (tags-few s h eg),
+        zeros t 512 (states-few s h et),
+        zeros d 4096 (data-few s h ed),
+        numbers-zeros 8 (s .lines) m,
+        numbers-zeros 4 (entries s) g,
+        numbers-zeros 8 (entries s) d,
+        et,
+      )
 
 -- The parts that are lent are those of the trace.
 pub parts-played : (s : Shape) (n : ℕ) (a₀ : List ℕ) {us vs ws xs : List ℕ} → us ≡ ws → vs ≡ xs → {t u : Model} → t ≡ u

@@ -153,20 +153,20 @@ fn play_orders(shape: Shape, orders: usize, trace: &[u8], answers: &mut [u64; MA
     ensures { λ r. ⌜ r ≡ audit shape (modelRun shape (traceOrders orders (now (trace .entry))) (start shape)) ⌝ }
     ensures { λ r. ⌜ now (answers .exit) ≡ placed (answersTo shape (traceOrders orders (now (trace .entry))) (start shape)) (now (answers .entry)) ⌝ }
 {
-    let n = shape.entries();
-    let memory_bytes = 8 * shape.lines;
-    let tag_bytes = 4 * n;
-    let data_bytes = 8 * n;
-    let mut memory = [0u8; 8 * Shape::MAX_LINES];
-    let mut tags = [0u8; 4 * Shape::MAX_PORTS * Shape::MAX_SETS];
-    let mut states = [0u8; Shape::MAX_PORTS * Shape::MAX_SETS];
-    let mut data = [0u8; 8 * Shape::MAX_PORTS * Shape::MAX_SETS];
+    let memory_bytes = shape.memory_bytes();
+    let tags_bytes = shape.tags_bytes();
+    let states_bytes = shape.states_bytes();
+    let data_bytes = shape.data_bytes();
+    let mut memory = [0u8; Shape::MAX_MEMORY_BYTES];
+    let mut tags = [0u8; Shape::MAX_TAGS_BYTES];
+    let mut states = [0u8; Shape::MAX_STATES_BYTES];
+    let mut data = [0u8; Shape::MAX_DATA_BYTES];
     let middle = 16 + 8 * orders;
     run_and_audit(
         shape,
         &mut memory[..memory_bytes],
-        &mut tags[..tag_bytes],
-        &mut states[..n],
+        &mut tags[..tags_bytes],
+        &mut states[..states_bytes],
         &mut data[..data_bytes],
         &trace[16..],
         &trace[middle..],

@@ -42,6 +42,19 @@ entries s = s .ports * s .sets
 abbrev pub entryNumber : Shape → ℕ → ℕ → ℕ
 entryNumber s p index = p * s .sets + index
 
+-- Main memory and the three tables in bytes: eight for a word, four for a tag, one for a state.
+abbrev pub memoryBytes : Shape → ℕ
+memoryBytes s = 8 * s .lines
+
+abbrev pub tagsBytes : Shape → ℕ
+tagsBytes s = 4 * entries s
+
+abbrev pub statesBytes : Shape → ℕ
+statesBytes s = entries s
+
+abbrev pub dataBytes : Shape → ℕ
+dataBytes s = 8 * entries s
+
 -- Main memory and the three tables, of the lengths given, have exactly those that the shape gives.
 unfoldable pub fits : Shape → ℕ → ℕ → ℕ → ℕ → Bool
 fits s memory tags states words = eqb memory (s .lines) && eqb tags (entries s) && eqb states (entries s) && eqb words (entries s)

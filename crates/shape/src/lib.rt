@@ -5,7 +5,8 @@ use range::Range;
 ghost use mathlib.Core.Path.{_≡_};
 ghost use mathlib.Core.Bool.{true};
 ghost use Prim.Native.Nat.{_<_, _≤_, _+_, _-_, _/_, _%_, _^_};
-ghost use Rattle.shape.specs.Shape.{unranged, isSets, inRange, entries, entryNumber, fits, rangesEmpty, rangesEnd, fitRefusal, refusalOf, placeOf};
+ghost use Rattle.shape.specs.Shape.{unranged, isSets, inRange, entries, entryNumber, memoryBytes, tagsBytes, statesBytes, dataBytes};
+ghost use Rattle.shape.specs.Shape.{fits, rangesEmpty, rangesEnd, fitRefusal, refusalOf, placeOf};
 
 // How many ports there are, how many sets each port's direct-mapped cache has, and how many lines main memory has; the lines on which every
 // access runs write back, and those on which it runs write through, if they are not scratch. (Document 01's word shape.)
@@ -39,6 +40,17 @@ impl Shape {
     pub const MAX_SETS: usize = 64;
 
     pub const MAX_LINES: usize = 4096;
+
+    // What each table has at most, in entries; and main memory and the tables in bytes.
+    pub const MAX_ENTRIES: usize = Shape::MAX_PORTS * Shape::MAX_SETS;
+
+    pub const MAX_MEMORY_BYTES: usize = 8 * Shape::MAX_LINES;
+
+    pub const MAX_TAGS_BYTES: usize = 4 * Shape::MAX_ENTRIES;
+
+    pub const MAX_STATES_BYTES: usize = Shape::MAX_ENTRIES;
+
+    pub const MAX_DATA_BYTES: usize = 8 * Shape::MAX_ENTRIES;
 
     // A shape whose two ranges are empty.
     pub fn unranged(ports: usize, sets: usize, lines: usize) -> Shape
@@ -94,6 +106,36 @@ impl Shape {
         ensures { λ r. ⌜ (r ≡ entryNumber self p index) × (r < entries self) ⌝ }
     {
         p * self.sets + index
+    }
+
+    // The bytes of main memory: eight for each line's word.
+    pub fn memory_bytes(self) -> usize
+        requires { ⌜ inRange self ≡ true ⌝ }
+        ensures { λ r. ⌜ r ≡ memoryBytes self ⌝ }
+    {
+        8 * self.lines
+    }
+
+    // The bytes of each of the three tables: four for a tag, one for a state, eight for a word.
+    pub fn tags_bytes(self) -> usize
+        requires { ⌜ inRange self ≡ true ⌝ }
+        ensures { λ r. ⌜ r ≡ tagsBytes self ⌝ }
+    {
+        4 * self.entries()
+    }
+
+    pub fn states_bytes(self) -> usize
+        requires { ⌜ inRange self ≡ true ⌝ }
+        ensures { λ r. ⌜ r ≡ statesBytes self ⌝ }
+    {
+        self.entries()
+    }
+
+    pub fn data_bytes(self) -> usize
+        requires { ⌜ inRange self ≡ true ⌝ }
+        ensures { λ r. ⌜ r ≡ dataBytes self ⌝ }
+    {
+        8 * self.entries()
     }
 
     // The lengths of main memory and of the tables are those of the shape.
