@@ -11,6 +11,7 @@ use Rattle.endian.specs.Little.{numbers}
 use Rattle.words.specs.Bools.{bit}
 use Rattle.words.proofs.Bools.{Is, by-bool, contra}
 use Rattle.protocol.specs.declared.rules.Rule.{Rule}
+use Rattle.protocol.specs.declared.state.State.the-variants.{I}
 use Rattle.protocol.specs.State.{code}
 use Rattle.protocol.specs.Rules.{flushRule}
 use Rattle.protocol.proofs.States.{owner-valid}
@@ -36,7 +37,7 @@ module _ (s : Shape) (pos : zero < s .sets) (t : Model) (i a : ℕ) (port : i < 
   abbrev pub flushing : Rule
   flushing = flushRule (seen s t a i)
 
-  pub emptied : Is (holds s t a i) → model (t .memory) (t .tags) (set (t .states) (entryOf s a i) 0) (t .words) ≡ ruled s pos t i a port flushing
+  pub emptied : Is (holds s t a i) → model (t .memory) (t .tags) (set (t .states) (entryOf s a i) (code I)) (t .words) ≡ ruled s pos t i a port flushing
       (wordAt s t a i)
   unfolding putAt code wordAt
   emptied held =
@@ -81,19 +82,19 @@ module _ {l : Line} (v : Placed l) (m g h d : List ℕ) (i : ℕ) (port : i < l 
   unfolding tablesIn
   unpacked = fine
 
-  emptied-bytes : (h′ : List ℕ) → Is (holds s t′ a i) → h′ ≡ set h (entryNumber s i (l .place .index)) 0
+  emptied-bytes : (h′ : List ℕ) → Is (holds s t′ a i) → h′ ≡ set h (entryNumber s i (l .place .index)) (code I)
       → tablesIn s g h′ d ≡ ruled s (some v) t′ i a port (flushRule (seen s t′ a i)) (wordAt s t′ a i)
   unfolding tablesIn
   emptied-bytes h′ held e = rw (e, number-is v i) (emptied s (some v) t′ i a port unpacked held)
 
   pub flush-done : (m′ h′ : List ℕ) {held stores : Bool} → held ≡ holds s t′ a i → stores ≡ owns s t′ a i → {w : ℕ}
       → w ≡ wordAt s t′ a i → {k : ℕ} → k ≡ entryNumber s i (l .place .index)
-      → h′ ≡ cond held (set h k 0) h
+      → h′ ≡ cond held (set h k (code I)) h
       → numbers 8 (s .lines) m′ ≡ store stores a w (numbers 8 (s .lines) m) → {n : Answer}
       → n ≡ accepted 0 0 0 (0 + bit stores) → result n (modelIn s (bytes m′ g h′ d)) ≡ flushed s (modelIn s (bytes m g h d)) i a
   flush-done m′ h′ {held} {stores} eh es {w} ew ek ehs em en =
       by-bool (holds s t′ a i)
-      (λ y. let eh′ : h′ ≡ set h (entryNumber s i (l .place .index)) 0 = ehs ∙ rw (eh, y, ek) in
+      (λ y. let eh′ : h′ ≡ set h (entryNumber s i (l .place .index)) (code I) = ehs ∙ rw (eh, y, ek) in
       let em′ : numbers 8 (s .lines) m′ ≡ store (owns s t′ a i) a (wordAt s t′ a i) (numbers 8 (s .lines) m) = em ∙ rw (es, ew) in
       rw (en, zero-add, es, held-together s (bytes m′ g h′ d) em′ (emptied-bytes h′ y eh′)) (sym (flush-held s (bytes m g h d) i a (some v) port y)))
       (λ y. let o : owns s t′ a i ≡ false = not-true _ (contra (owns s t′ a i) (owner-valid (seen s t′ a i)) y) in

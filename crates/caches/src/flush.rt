@@ -4,10 +4,14 @@ use model::answer::Answer;
 use ports::entry;
 use ports::line::Line;
 use ports::survey::Masks;
+use protocol::state;
+use protocol::state::State;
 ghost use mathlib.Core.Path.{_≡_};
 ghost use mathlib.Core.Bool.{true, cond};
 ghost use Prim.Native.Nat.{_<_};
 ghost use lib.ListN.{set, length};
+ghost use Rattle.protocol.specs.declared.state.State.the-variants.{I};
+ghost use Rattle.protocol.specs.State.{code};
 ghost use Rattle.model.specs.Step.{result, flushed};
 ghost use Rattle.ports.specs.Bytes.{bytes, modelIn, tablesIn, Fitting};
 ghost use Rattle.ports.specs.Line.{Placed};
@@ -16,10 +20,10 @@ ghost use Rattle.ports.specs.Masks.{masksOf};
 // An entry that may become I.
 fn empty_if(states: &mut [u8], on: bool, k: usize)
     requires { ⌜ k < length (now states) ⌝ }
-    ensures { λ r. ⌜ now (states .exit) ≡ cond on (set (now (states .entry)) k 0) (now (states .entry)) ⌝ }
+    ensures { λ r. ⌜ now (states .exit) ≡ cond on (set (now (states .entry)) k (code I)) (now (states .entry)) ⌝ }
 {
     if on {
-        states[k] = 0;
+        states[k] = state::state_byte(State::I);
     }
 }
 

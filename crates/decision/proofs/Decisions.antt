@@ -12,9 +12,10 @@ use Rattle.words.specs.Bools.{bit}
 use Rattle.words.specs.Access.{effectAt}
 use Rattle.words.proofs.Bools.{by-bool}
 use Rattle.protocol.specs.declared.state.Mode.{Mode}
+use Rattle.protocol.specs.declared.state.State.the-variants.{I}
 use Rattle.protocol.specs.declared.state.Byte.{Byte}
 use Rattle.protocol.specs.declared.rules.Coded.{Coded}
-use Rattle.protocol.specs.State.{stateOf, orInvalid, isState, owner}
+use Rattle.protocol.specs.State.{code, stateOf, orInvalid, isState, owner}
 use Rattle.protocol.specs.Rules.{rule}
 use Rattle.protocol.specs.Coded.{coded}
 use Rattle.protocol.proofs.States.{not-valid}
@@ -38,14 +39,15 @@ use Rattle.ports.proofs.Surveys.{masks-states}
 use Rattle.decision.specs.declared.Decision.{Decision}
 use Rattle.decision.specs.Decision.{other, decided}
 
-pub chosen-state : (h : Bool) (b : ℕ) {x : ℕ} → x ≡ cond h b 0 → isState (stateOf b) ≡ true → isState (stateOf x) ≡ true
-unfolding stateOf
-chosen-state true b e s = rw e s
-chosen-state false b e s = rw e refl
+pub chosen-state : (h : Bool) (b : ℕ) {x y : ℕ} → y ≡ code I → x ≡ cond h b y → isState (stateOf b) ≡ true → isState (stateOf x) ≡ true
+unfolding stateOf code
+chosen-state true b ey e s = rw e s
+chosen-state false b ey e s = rw (e, ey) refl
 
--- The own entry's state, from its byte on a hit and 0 on a miss.
-hit-state : (s : Shape) (t : Model) (i a : ℕ) → orInvalid (stateOf (cond (holds s t a i) (getD (t .states) (entryOf s a i) 0) 0)) ≡ seen s t a i
-unfolding stateOf
+-- The own entry's state, from its byte on a hit and the byte of I on a miss.
+hit-state : (s : Shape) (t : Model) (i a : ℕ)
+    → orInvalid (stateOf (cond (holds s t a i) (getD (t .states) (entryOf s a i) 0) (code I))) ≡ seen s t a i
+unfolding stateOf code
 hit-state s t i a =
     by-bool (holds s t a i) (λ v. rw v (sym (seen-here s t a i (seen-tag s t a i v))))
     (λ v. rw (not-true (holds s t a i) v) (sym (not-valid (seen s t a i) v)))
@@ -88,7 +90,7 @@ module _ {l : Line} (v : Placed l) (g h d : List ℕ) (i : ℕ) (port : i < l .s
       pub decide-done : (m₀ : List ℕ) (acc : Access) (m : Mode) → {hit : Bool} → hit ≡ holds s t′ a i → {others : ℕ}
           → others ≡ portsFrom (other s t′ i a) 0 (s .ports) → {dirt : Bool} → dirt ≡ dirty s t′ a
           → {w : ℕ} → w ≡ cond hit (e .word) (wordSupplied s (modelIn s (bytes m₀ g h d)) a)
-          → {k : Effect} → k ≡ effectAt acc w → {x : ℕ} → x ≡ cond hit (e .byte) 0
+          → {k : Effect} → k ≡ effectAt acc w → {x y : ℕ} → y ≡ code I → x ≡ cond hit (e .byte) y
           → {r : Coded} → r ≡ coded (rule (k .outcome) m (not (eqb others 0)) dirt (orInvalid (stateOf x)))
           → {home : ℕ} → home ≡ e .tag * s .sets + l .place .index
           → {n : Answer} → n ≡ accepted (k .value) (bit (k .swapped)) (bit (not hit && not dirt)) (bit (not hit && o) + bit (r .stores))
@@ -103,7 +105,7 @@ module _ {l : Line} (v : Placed l) (g h d : List ℕ) (i : ℕ) (port : i < l .s
             answer = n;
           }) (decided s (modelIn s (bytes m₀ g h d)) i a acc m)
       unfolding entryAt coded decided accessed wordFound fetches evictsOwner shared dirty accessRule wordAt seen tablesIn modelIn
-      decide-done m₀ acc m hh {others} ho hd {w} hw {k} hk {x} hx {r} hr {home} hm hn =
+      decide-done m₀ acc m hh {others} ho hd {w} hw {k} hk {x} hy hx {r} hr {home} hm hn =
           let es : not (eqb others 0) ≡ shared s t′ i a = rw ho (shared-any s t′ i a) in
-          let ex : orInvalid (stateOf x) ≡ seen s t′ a i = rw (hx, hh, entry-own) (hit-state s t′ i a) in
+          let ex : orInvalid (stateOf x) ≡ seen s t′ a i = rw (hx, hy, hh, entry-own) (hit-state s t′ i a) in
           rw (hn, hr, hk, hw, es, ho, hd, ex, hh, owner-own, home-own hm, tag-is v, entry-own)

@@ -9,6 +9,7 @@ use ports::survey::Masks;
 use protocol::rules;
 use protocol::state;
 use protocol::state::Mode;
+use protocol::state::State;
 use words::access;
 use words::access::Access;
 use words::choose;
@@ -90,7 +91,7 @@ pub fn decide(
     let found = find_word(memory, tags, states, words, line, hit, e.word, said.owners);
     let effect = access::effect_at(acc, found);
     let outcome = effect.outcome;
-    let byte = choose::choose_byte(hit, e.byte, 0);
+    let byte = choose::choose_byte(hit, e.byte, state::state_byte(State::I));
     let r = rules::own_rule(outcome, m, others != 0, dirty, byte);
     let fetches = !hit & !dirty;
     let evicts = !hit & state::is_owner(state::byte_state(e.byte));

@@ -53,12 +53,12 @@ find-word-requires c κs =
     let start : tie.Start = search in
     (start .pre .0, (start .pre .1 .0, masks-owners _ _ _ (start .pre .1 .1 .1 .0)))
 
--- The byte chosen, the own entry's or 0, is the code of a state.
+-- The byte chosen, the own entry's or that of I, is the code of a state.
 own-rule-requires : tie.Need-own-rule-requires
 own-rule-requires c κs =
     let after-find-word : tie.After-find-word = search in let after-entry-at = entry-at-of-find-word after-find-word in
     let number = number-of-entry-at after-entry-at in let start = start-of-entry-at after-entry-at in
-    chosen-state (eqb (start .args .said .holders / 2 ^ start .args .i % 2) 1) _ (c .choose-byte .ensures)
+    chosen-state (eqb (start .args .said .holders / 2 ^ start .args .i % 2) 1) _ (c .before .state-byte .ensures) (c .choose-byte .ensures)
     (entry-state (start .pre .1 .0) _ _ _ _ (start .pre .1 .1 .0) (number .entry-number .ensures .0) (after-entry-at .entry-at .ensures)
     (start .pre .1 .1 .1 .0) (start .pre .1 .1 .1 .1))
 
@@ -69,7 +69,8 @@ returns : tie.Need-returns
 returns c =
     let after-home-of : tie.After-home-of = search in let after-is-owner : tie.After-is-owner = search in
     let after-byte-state : tie.After-byte-state = search in let after-own-rule : tie.After-own-rule = search in
-    let after-choose-byte : tie.After-choose-byte = search in let after-effect-at : tie.After-effect-at = search in
+    let after-choose-byte : tie.After-choose-byte = search in let after-state-byte : tie.After-state-byte = search in
+    let after-effect-at : tie.After-effect-at = search in
     let after-find-word = find-word-of-own-rule after-own-rule in let after-entry-at = entry-at-of-find-word after-find-word in
     let number = number-of-entry-at after-entry-at in let start = start-of-entry-at after-entry-at in
     let p = start .pre .1 .1 .1 .0 in
@@ -77,11 +78,11 @@ returns c =
     (after-byte-state .byte-state .ensures) (after-is-owner .is-owner .ensures) _ _ _ (masks-hit _ _ _ p _ (start .pre .1 .1 .0))
     (bit-away _ _ _ (masks-holders _ _ _ p) (start .pre .1 .1 .0) (few (start .pre .1 .0)) .1) (masks-dirty _ _ _ p)
     (after-find-word .find-word .ensures)
-    (after-effect-at .effect-at .ensures) (after-choose-byte .choose-byte .ensures) (after-own-rule .own-rule .ensures)
+    (after-effect-at .effect-at .ensures) (after-state-byte .state-byte .ensures) (after-choose-byte .choose-byte .ensures) (after-own-rule .own-rule .ensures)
     (after-home-of .home-of .ensures) (c .accept .ensures)
 
 pub decide-spec : {M : Type 1} → statement M
 decide-spec =
     tie.close
     (tie.spec entry-number-requires entry-at-requires shr-own shl-others sub-others find-word-requires (λ c κs. search needs)
-    (λ c κs. search needs) own-rule-requires (λ c κs. search needs) (λ c κs. search needs) home-of-requires (λ c κs. search needs) returns)
+    (λ c κs. search needs) (λ c κs. search needs) own-rule-requires (λ c κs. search needs) (λ c κs. search needs) home-of-requires (λ c κs. search needs) returns)
