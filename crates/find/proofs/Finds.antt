@@ -14,7 +14,7 @@ use Rattle.shape.specs.declared.Shape.{Shape}
 use Rattle.model.specs.declared.found.Found.{Found}
 use Rattle.model.specs.declared.found.Found.the-variants.{Refused, Holder, Memory}
 use Rattle.shape.specs.declared.Place.{Place}
-use Rattle.shape.specs.Shape.{entries, refusalOf, entryNumber, placeOf}
+use Rattle.shape.specs.Shape.{refusalOf, entryNumber, placeOf}
 use Rattle.model.specs.Below.{lowest}
 use Rattle.model.specs.Tables.{Model, model, lentRefusal, sound, seen, wordAt, memoryAt, holds, columnSound}
 use Rattle.model.specs.Find.{holderOr, find, wordsOf, view}
@@ -94,9 +94,6 @@ module _ (s : Shape) (t : Model) (a : ℕ) where
     pub view-memory : {l : List ℕ} → d ≡ Memory → l ≡ memoryAt t a ∷ [] → l ≡ view s t a
     unfolding view
     view-memory g el = el ∙ ap (wordsOf s t a) (sym g ∙ f)
-
-pub in-words : (s : Shape) (t : Model) (a p : ℕ) → There s t a p → {k : ℕ} → k < entries s → k < length (t .words)
-in-words s t a p h q = omega (arith, q, h .lent .sizes .words)
 
 pub in-memory : (s : Shape) (t : Model) (a : ℕ) → Lent s t × a < s .lines → a < length (t .memory)
 in-memory s t a h = omega (arith, h .0 .sizes .memory, h .1)

@@ -115,7 +115,8 @@ pub fn view_line<'a>(
         Found::Refused(_) => &memory[0..0],
         Found::Holder(p) => {
             let at = shape.place(a);
-            one_word(data, shape.entry_number(p, at.index))
+            let k = shape.entry_number(p, at.index);
+            one_word(data, k)
         }
         Found::Memory => one_word(memory, a),
     }

@@ -2,7 +2,7 @@
 use borrow.Author.Needs.{needs}
 use native.Mathlib.Omega.{arith}
 use Rattle.find.proofs.Links.{index-below}
-use Rattle.find.proofs.Finds.{port-there, memory-there, in-words, in-memory, view-none, view-port, view-memory}
+use Rattle.find.proofs.Finds.{port-there, memory-there, in-memory, view-none, view-port, view-memory}
 use Rattle.find.proofs.view_line.Statement.{statement}
 use Rattle.find.proofs.view_line.Tie as tie
 
@@ -22,7 +22,8 @@ entry-number-requires c κs =
 one-word-requires : tie.Need-one-word-requires
 one-word-requires c κs =
     let number : tie.After-entry-number = search in let after-found : tie.After-found = search in let after-find-line : tie.After-find-line = search in
-    in-words _ _ _ _ (port-there _ _ _ (after-find-line .find-line .ensures) _ (after-found .found .given .1)) (number .entry-number .ensures .1)
+    let h = port-there _ _ _ (after-find-line .find-line .ensures) _ (after-found .found .given .1) in
+    omega (arith, number .entry-number .ensures .1, h .lent .sizes .words, h .lent .sizes .memory, h .line)
 
 one-word-requires-2 : tie.Need-one-word-requires-2
 one-word-requires-2 c κs =
