@@ -46,7 +46,8 @@ pub fn device_write(
 {
     let dirty = said.owners != 0;
     let supplied = supply::supplied_word(memory, tags, states, words, line, said.owners);
-    let w = word::merged(mask, supplied, x);
+    let merge = word::merged(mask, supplied, x);
+    let w = merge.word;
     let command = rules::invalidate();
     bus::ask(tags, states, words, line, said.holders, command, w);
     memory::store_if(memory, line.shape.lines, true, line.number, w);

@@ -9,8 +9,9 @@ use Rattle.words.specs.declared.access.Access.the-variants.{Read, Write,
 use Rattle.words.specs.declared.access.Outcome.{Outcome}
 use Rattle.words.specs.declared.access.Outcome.the-variants.{Reads, Writes, Rewrites}
 use Rattle.words.specs.declared.access.Effect.{Effect}
-use Rattle.words.specs.Word.{merge, half}
-use Rattle.words.specs.Access.{effect, reading, sameWord, writing, effectAt, writes, isWrite, isSwap, maskOf, operandOf, compareOf, outcomeOf}
+use Rattle.words.specs.declared.word.Merge.{Merge}
+use Rattle.words.specs.Word.{merge, sameWord, merged, half}
+use Rattle.words.specs.Access.{effect, reading, writing, effectAt, writes, isWrite, isSwap, maskOf, operandOf, compareOf, outcomeOf}
 use Rattle.words.proofs.Bools.{Is, contra, by-bool, by-cond}
 
 pub read-effect : (w : ℕ) → effectAt Read w ≡ reading w
@@ -62,6 +63,10 @@ alters-writes Rewrites h = refl
 pub unwritten : (acc : Access) (w : ℕ) → Is (not (writes (effectAt acc w .outcome))) → effectAt acc w .word ≡ w
 unwritten acc w h = unaltered acc w (contra (alters (effectAt acc w .outcome)) (alters-writes (effectAt acc w .outcome)) h)
 
+not-not : (b : Bool) → not (not b) ≡ b
+not-not true = refl
+not-not false = refl
+
 -- An effect put together from what is asked of the access, one by one.
 together : (a : Access) (w : ℕ)
     → let swapped = isSwap a && eqb (half (maskOf a) w) (compareOf a) in
@@ -72,10 +77,10 @@ together Read w = refl
 together (Write mask x) w = refl
 together (Swap mask x compare) w = by-bool (eqb (half mask w) compare) (λ h. rw h) (λ h. rw (not-true (eqb (half mask w) compare) h))
 
-pub effect-is : (a : Access) (w : ℕ) {mask half' compare operand full word value : ℕ} {write swap : Bool} {o : Outcome}
+pub effect-is : (a : Access) (w : ℕ) {mask half' compare operand word value : ℕ} {write swap : Bool} {full : Merge} {o : Outcome}
     → mask ≡ maskOf a → write ≡ isWrite a → swap ≡ isSwap a → half' ≡ half mask w → compare ≡ compareOf a
-    → operand ≡ operandOf a → full ≡ merge mask w operand
-    → o ≡ outcomeOf (write || (swap && eqb half' compare)) (sameWord w full)
-    → word ≡ cond (write || (swap && eqb half' compare)) full w → value ≡ cond write 0 w
+    → operand ≡ operandOf a → full ≡ merged mask w operand
+    → o ≡ outcomeOf (write || (swap && eqb half' compare)) (not (full .changed))
+    → word ≡ cond (write || (swap && eqb half' compare)) (full .word) w → value ≡ cond write 0 w
     → effect o word value (swap && eqb half' compare) ≡ effectAt a w
-effect-is a w p1 p2 p3 p4 p5 p6 p7 p8 p9 p10 = rw (p10, p9, p8, p7, p6, p5, p4, p3, p2, p1) (together a w)
+effect-is a w p1 p2 p3 p4 p5 p6 p7 p8 p9 p10 = rw (p10, p9, p8, p7, p6, p5, p4, p3, p2, p1, not-not) (together a w)

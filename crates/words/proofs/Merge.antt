@@ -6,7 +6,8 @@ use native.Mathlib.Omega.{arith}
 use lib.Dec.{eqb}
 use lib.Pow.{pow-add}
 use native.Mathlib.Nat.{div-one, zero-add, mul-one, mul-le-mul-right, mul-suc, add-comm}
-use Rattle.words.specs.Word.{byteOf, bitOf, mergeLow, merge}
+use Rattle.words.specs.declared.word.Merge.{Merge}
+use Rattle.words.specs.Word.{byteOf, bitOf, mergeLow, merge, merged}
 
 low : (mask w x : ℕ) → mergeLow 1 mask w x ≡ cond (eqb (mask % 2) 1) (x % 256) (w % 256)
 unfolding mergeLow
@@ -40,6 +41,10 @@ merge-full mask w x e h =
     (x / 16777216 % 256) (x / 4294967296 % 256) (x / 1099511627776 % 256) (x / 281474976710656 % 256) (x / 72057594037927936 % 256)
     (omega arith) (omega arith) (omega arith) (omega arith) (omega arith) (omega arith) (omega arith) (omega arith)
     ∙ merge-is 255 w x refl refl refl refl refl refl refl refl)
+
+-- The word of a merge that also says whether the word changed.
+pub word-merged : (mask w x : ℕ) {g : Merge} → g ≡ merged mask w x → g .word ≡ merge mask w x
+word-merged mask w x e = ap (λ (g : Merge). g .word) e
 
 -- What a merge gives is below 2^64, whatever is merged.
 byte-fits : (b : Bool) (x w : ℕ) → cond b (x % 256) (w % 256) < 256

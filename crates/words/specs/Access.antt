@@ -7,7 +7,7 @@ use Rattle.words.specs.declared.access.Access.the-variants.{Read, Write,
 use Rattle.words.specs.declared.access.Outcome.{Outcome}
 use Rattle.words.specs.declared.access.Outcome.the-variants.{Reads, Writes, Rewrites}
 use Rattle.words.specs.declared.access.Effect.{Effect}
-use Rattle.words.specs.Word.{merge, half}
+use Rattle.words.specs.Word.{merge, sameWord, half}
 
 abbrev pub effect : Outcome → ℕ → ℕ → Bool → Effect
 effect o w v s = record { outcome = o; word = w; value = v; swapped = s }
@@ -15,10 +15,6 @@ effect o w v s = record { outcome = o; word = w; value = v; swapped = s }
 -- A read of the word w, or a swap that fails: the word is the answer's value, and stays as it was.
 abbrev pub reading : ℕ → Effect
 reading w = effect Reads w w false
-
--- A write leaves the word as it was: the whole word after it is the whole word before.
-abbrev pub sameWord : ℕ → ℕ → Bool
-sameWord before after = eqb after before
 
 -- What a write comes to, or a swap that succeeds, by whether it leaves the word as it was.
 abbrev pub writeOutcome : Bool → Outcome

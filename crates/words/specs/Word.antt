@@ -1,7 +1,8 @@
--- A 64-bit word by its bytes, and the half that a swap compares.
+-- A 64-bit word by its bytes, a merge and whether it changes the word, and the half that a swap compares.
 use Prim.Native.Nat.{ℕ, zero, suc, _+_, _*_, _/_, _%_, _^_}
-use mathlib.Core.Bool.{cond}
+use mathlib.Core.Bool.{Bool, cond, not}
 use lib.Dec.{eqb}
+use Rattle.words.specs.declared.word.Merge.{Merge}
 
 -- Byte k of a word: its bits 8k to 8k+7.
 abbrev pub byteOf : ℕ → ℕ → ℕ
@@ -20,6 +21,14 @@ mergeLow (suc k) mask w x =
 -- The word w with the operand x merged under the mask.
 unfoldable pub merge : ℕ → ℕ → ℕ → ℕ
 merge mask w x = mergeLow 8 mask w x
+
+-- A write leaves the word as it was: the whole word after it is the whole word before.
+abbrev pub sameWord : ℕ → ℕ → Bool
+sameWord before after = eqb after before
+
+-- The merge, and whether the word changed.
+abbrev pub merged : ℕ → ℕ → ℕ → Merge
+merged mask w x = record { word = merge mask w x; changed = not (sameWord w (merge mask w x)) }
 
 -- What a swap compares: bits 0 to 31 under mask 0x0F, else the upper half. A swap with another mask than 0x0F or 0xF0 is refused.
 abbrev pub half : ℕ → ℕ → ℕ

@@ -100,10 +100,10 @@ pub fn effect_at(a: Access, w: u64) -> Effect
     let swap = is_swap(a);
     let swapped = swap & (word::half_of(mask, w) == compare_of(a));
     let writes = write | swapped;
-    let merged = word::merged(mask, w, operand_of(a));
+    let merge = word::merged(mask, w, operand_of(a));
     Effect {
-        outcome: outcome_of(writes, merged == w),
-        word: choose::choose_word(writes, merged, w),
+        outcome: outcome_of(writes, !merge.changed),
+        word: choose::choose_word(writes, merge.word, w),
         value: choose::choose_word(write, 0, w),
         swapped,
     }

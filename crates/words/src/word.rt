@@ -1,9 +1,15 @@
-// A 64-bit word: merging bytes under a mask, and the half that a swap compares.
+// A 64-bit word: merging bytes under a mask, with whether that changes it, and the half that a swap compares.
 ghost use mathlib.Core.Path.{_≡_};
 ghost use mathlib.Core.Bool.{cond};
 ghost use lib.Dec.{eqb};
 ghost use Prim.Native.Nat.{_%_, _<_};
-ghost use Rattle.words.specs.Word.{half, merge};
+ghost use Rattle.words.specs.Word.{half, merge, merged};
+
+// A merge: the word after it, and whether that is another word than before.
+pub struct Merge {
+    pub word: u64,
+    pub changed: bool,
+}
 
 // The lowest byte of x where the mask bit is 1, else of w.
 fn pick(bit: u8, x: u64, w: u64) -> u64
@@ -13,7 +19,7 @@ fn pick(bit: u8, x: u64, w: u64) -> u64
 }
 
 // The word w with byte k of the operand x where bit k of the mask is 1. The whole word is the common case.
-pub fn merged(mask: u8, w: u64, x: u64) -> u64
+fn merged_word(mask: u8, w: u64, x: u64) -> u64
     ensures { λ r. ⌜ r ≡ merge mask w x ⌝ }
 {
     if mask == 0xFF {
@@ -35,6 +41,17 @@ pub fn merged(mask: u8, w: u64, x: u64) -> u64
         + b5 * 1099511627776
         + b6 * 281474976710656
         + b7 * 72057594037927936
+}
+
+// The merge of the operand x into the word w.
+pub fn merged(mask: u8, w: u64, x: u64) -> Merge
+    ensures { λ r. ⌜ r ≡ merged mask w x ⌝ }
+{
+    let word = merged_word(mask, w, x);
+    Merge {
+        word,
+        changed: word != w,
+    }
 }
 
 // What a swap compares: the lower half under mask 0x0F, else the upper half.

@@ -1,5 +1,6 @@
 -- The word supplied and merged, the holders' answers, and one store. Assumes nothing.
 use borrow.Author.Needs.{needs}
+use Rattle.words.proofs.Merge.{word-merged}
 use Rattle.ports.specs.Bytes.{Bytes, bytes, tablesIn}
 use Rattle.ports.proofs.Surveys.{masks-owners, masks-states}
 use Rattle.caches.proofs.Devices.{all-hold, written-done}
@@ -40,6 +41,12 @@ ask-requires c κs =
       ),
     )
 
+store-if-requires : tie.Need-store-if-requires
+store-if-requires c κs =
+    let after-ask : tie.After-ask = search in
+    let start = start-of-supplied-word (supplied-word-of-ask after-ask) in
+    (start .pre .0 .memory-fits, λ _. start .pre .1 .0 .below)
+
 returns : tie.Need-returns
 returns c =
     let after-accept : tie.After-accept = search in let after-store-if : tie.After-store-if = search in let after-ask : tie.After-ask = search in
@@ -47,11 +54,11 @@ returns c =
     let after-supplied-word = supplied-word-of-ask after-ask in
     let start = start-of-supplied-word after-supplied-word in
     written-done (start .pre .1 .0) (lent start) (start .pre .1 .1 .0) _ _ _ (after-invalidate .invalidate .ensures .0)
-    (after-supplied-word .supplied-word .ensures) (after-merged .merged .ensures)
+    (after-supplied-word .supplied-word .ensures) (word-merged _ _ _ (after-merged .merged .ensures))
     (after-ask .ask .ensures) (after-store-if .store-if .ensures) (after-accept .accept .ensures)
 
 pub device-write-spec : {M : Type 1} → statement M
 device-write-spec =
     tie.close
-    (tie.spec supplied-word-requires (λ c κs. search needs) (λ c κs. search needs) ask-requires (λ c κs. search needs) (λ c κs. search needs) (λ c. search needs)
+    (tie.spec supplied-word-requires (λ c κs. search needs) (λ c κs. search needs) ask-requires store-if-requires (λ c κs. search needs) (λ c. search needs)
     (λ c. search needs) (λ c. search needs) (λ c. search needs) returns)

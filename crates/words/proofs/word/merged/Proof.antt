@@ -1,20 +1,10 @@
--- `merged` is `merge`: the operand under the full mask, else the eight bytes, each by `pick`. Assumes nothing.
+-- `merged` is `merged`: the word, and the test of it. Assumes nothing.
 use borrow.Author.Needs.{needs}
-use native.Mathlib.Omega.{arith}
-use Rattle.words.proofs.Merge.{merge-is, merge-full}
 use Rattle.words.proofs.word.merged.Statement.{statement}
 use Rattle.words.proofs.word.merged.Tie as tie
 
 returns : tie.Need-returns
-returns c = merge-full _ _ _ (c .if1 .taken) (omega (arith, (c .before .fits .x)))
-
-returns-2 : tie.Need-returns-2
-returns-2 c = search merge-is
+returns c = let after-word : tie.After-merged-word = search in rw (after-word .merged-word .ensures)
 
 pub merged-spec : {M : Type 1} → statement M
-merged-spec =
-    tie.close
-    (tie.spec returns (λ c κs. search needs) (λ c κs. search needs) (λ c κs. search needs) (λ c κs. search needs) (λ c κs. search needs)
-    (λ c κs. search needs) (λ c κs. search needs) (λ c κs. search needs) (λ c. search needs) (λ c. search needs) (λ c. search needs)
-    (λ c. search needs) (λ c. search needs) (λ c. search needs) (λ c. search needs) (λ c. search needs) (λ c. search needs) (λ c. search needs)
-    (λ c. search needs) (λ c. search needs) (λ c. search needs) (λ c. search needs) returns-2)
+merged-spec = tie.close (tie.spec (λ c κs. search needs) returns)
