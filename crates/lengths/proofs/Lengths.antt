@@ -7,21 +7,21 @@ use lib.Dec.{eqb}
 use borrow.Author.Tests.{eqb-true}
 use Rattle.words.proofs.Bools.{Is, and-l, and-r}
 use Rattle.shape.specs.declared.Shape.{Shape}
+use Rattle.shape.specs.declared.Sizes.{Sizes}
 use Rattle.shape.specs.Range.{endsBy}
-use Rattle.shape.specs.Shape.{withoutRanges, inRange, memoryBytes, tagsBytes, statesBytes, dataBytes, rangesEnd, fitRefusal}
+use Rattle.shape.specs.Shape.{withoutRanges, inRange, memoryBytes, tagsBytes, statesBytes, dataBytes, sizesOf, rangesEnd, fitRefusal}
 use Rattle.shape.proofs.Refusals.{accepted-all, not-nine}
 use Rattle.lengths.specs.Lengths.{tablesFit, bytesFit, refusalBy}
 
 -- Lengths held against those that the shape gives.
-pub tables-held : (s : Shape) (tags states words : ℕ) {g h d : ℕ} → g ≡ tagsBytes s → h ≡ statesBytes s → d ≡ dataBytes s
-    → (eqb tags g && eqb states h && eqb words d) ≡ tablesFit s tags states words
-unfolding tablesFit
-tables-held s tags states words eg eh ed = rw (eg, eh, ed)
+module _ (s : Shape) (memory tags states words : ℕ) {n : Sizes} (e : n ≡ sizesOf s) where
+  pub tables-held : (eqb tags (n .tags) && eqb states (n .states) && eqb words (n .«data»)) ≡ tablesFit s tags states words
+  unfolding tablesFit
+  tables-held = rw e
 
-pub bytes-held : (s : Shape) (memory tags states words : ℕ) {m : ℕ} {t : Bool} → m ≡ memoryBytes s → t ≡ tablesFit s tags states words
-    → (eqb memory m && t) ≡ bytesFit s memory tags states words
-unfolding bytesFit
-bytes-held s memory tags states words em et = rw (em, et)
+  pub bytes-held : {t : Bool} → t ≡ tablesFit s tags states words → (eqb memory (n .memory) && t) ≡ bytesFit s memory tags states words
+  unfolding bytesFit
+  bytes-held f = rw (e, f)
 
 -- Tables that fit, length by length.
 pub tables-fitting : (s : Shape) (tags states words : ℕ) → Is (tablesFit s tags states words)

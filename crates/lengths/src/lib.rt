@@ -10,7 +10,8 @@ pub fn tables_fit(shape: Shape, tags: usize, states: usize, data: usize) -> bool
     requires { ⌜ inRange shape ≡ true ⌝ }
     ensures { λ r. ⌜ r ≡ tablesFit shape tags states «data» ⌝ }
 {
-    (tags == shape.tags_bytes()) & (states == shape.states_bytes()) & (data == shape.data_bytes())
+    let n = shape.sizes();
+    (tags == n.tags) & (states == n.states) & (data == n.data)
 }
 
 // Main memory has its length too.
@@ -18,7 +19,8 @@ fn bytes_fit(shape: Shape, memory: usize, tags: usize, states: usize, data: usiz
     requires { ⌜ inRange shape ≡ true ⌝ }
     ensures { λ r. ⌜ r ≡ bytesFit shape memory tags states «data» ⌝ }
 {
-    (memory == shape.memory_bytes()) & tables_fit(shape, tags, states, data)
+    let n = shape.sizes();
+    (memory == n.memory) & tables_fit(shape, tags, states, data)
 }
 
 // Refusal 2, 3 or 12 of a shape and the lengths of the slices, else 0; out says that the slice written to has its length.

@@ -8,7 +8,8 @@ use native.Mathlib.Omega.{arith}
 use lib.ListN.{length, take, drop, replicate}
 use borrow.Author.Tests.{eq-eqb, ne-eqb}
 use Rattle.shape.specs.declared.Shape.{Shape}
-use Rattle.shape.specs.Shape.{inRange, entries, memoryBytes, tagsBytes, statesBytes, dataBytes, rangesEnd}
+use Rattle.shape.specs.declared.Sizes.{Sizes}
+use Rattle.shape.specs.Shape.{inRange, entries, sizesOf, rangesEnd}
 use Rattle.model.specs.Tables.{Model}
 use Rattle.model.specs.Fresh.{zeroed}
 use Rattle.model.specs.Audit.{audit}
@@ -43,49 +44,52 @@ unfolding numbers
 numbers-zeros w zero n = refl
 numbers-zeros w (suc k) n = rw (number-zeros w n, drop-zeros w n, numbers-zeros w k (n - w))
 
--- Memory and tables of a shape have at most these bytes.
-module _ (s : Shape) (h : inRange s ≡ true) {n : ℕ} where
-  pub memory-few : n ≡ memoryBytes s → n ≤ 32768
-  memory-few e = omega (arith, e, bounded s h .lines)
-
-  pub tags-few : n ≡ tagsBytes s → n ≤ 2048
-  tags-few e = omega (arith, e, bounded s h .entries-most)
-
-  pub states-few : n ≡ statesBytes s → n ≤ 512
-  states-few e = omega (arith, e, bounded s h .entries-most)
-
-  pub data-few : n ≡ dataBytes s → n ≤ 4096
-  data-few e = omega (arith, e, bounded s h .entries-most)
-
 -- The bytes that are lent.
-module _ (s : Shape) (h : inRange s ≡ true) {m g t d : ℕ} (em : m ≡ memoryBytes s) (eg : g ≡ tagsBytes s) (et : t ≡ statesBytes s)
-    (ed : d ≡ dataBytes s) where
+module _ (s : Shape) (h : inRange s ≡ true) {n : Sizes} (e : n ≡ sizesOf s) where
+  pub memory-few : n .memory ≤ 32768
+  memory-few = rw e (omega (arith, bounded s h .lines))
+
+  pub tags-few : n .tags ≤ 2048
+  tags-few = rw e (omega (arith, bounded s h .entries-most))
+
+  pub states-few : n .states ≤ 512
+  states-few = rw e (omega (arith, bounded s h .entries-most))
+
+  pub data-few : n .«data» ≤ 4096
+  data-few = rw e (omega (arith, bounded s h .entries-most))
+
   -- Slices of these lengths fit the shape, whatever they hold.
-  pub start-fits : rangesEnd s ≡ true → {ms gs ts ds : List ℕ} → length ms ≡ m → length gs ≡ g → length ts ≡ t → length ds ≡ d
-      → Fitting s (bytes ms gs ts ds)
-  start-fits ends lm lg lt ld = record {
+  pub start-fits : rangesEnd s ≡ true → {m g t d : List ℕ} → length m ≡ n .memory → length g ≡ n .tags → length t ≡ n .states → length d ≡ n .«data»
+      → Fitting s (bytes m g t d)
+  start-fits ends em eg et ed = record {
     range = h;
     ends = ends;
-    memory-fits = lm ∙ em;
-    filled = record { tags-fit = lg ∙ eg; states-fit = lt ∙ et; words-fit = ld ∙ ed };
+    memory-fits = em ∙ ap (λ (z : Sizes). z .memory) e;
+    filled = record {
+      tags-fit = eg ∙ ap (λ (z : Sizes). z .tags) e;
+      states-fit = et ∙ ap (λ (z : Sizes). z .states) e;
+      words-fit = ed ∙ ap (λ (z : Sizes). z .«data») e;
+    };
   }
 
   -- Zeros are the start.
   abbrev zeroBytes : Bytes
-  zeroBytes = bytes (take m (replicate 32768 0)) (take g (replicate 2048 0)) (take t (replicate 512 0)) (take d (replicate 4096 0))
+  zeroBytes =
+      bytes (take (n .memory) (replicate 32768 0)) (take (n .tags) (replicate 2048 0)) (take (n .states) (replicate 512 0))
+      (take (n .«data») (replicate 4096 0))
 
   pub start-is : modelIn s zeroBytes ≡ start s
   unfolding start zeroed modelIn
   start-is =
       rw (
-        zeros m 32768 (memory-few s h em),
-        zeros g 2048 (tags-few s h eg),
-        zeros t 512 (states-few s h et),
-        zeros d 4096 (data-few s h ed),
-        numbers-zeros 8 (s .lines) m,
-        numbers-zeros 4 (entries s) g,
-        numbers-zeros 8 (entries s) d,
-        et,
+        zeros (n .memory) 32768 memory-few,
+        zeros (n .tags) 2048 tags-few,
+        zeros (n .states) 512 states-few,
+        zeros (n .«data») 4096 data-few,
+        numbers-zeros 8 (s .lines) (n .memory),
+        numbers-zeros 4 (entries s) (n .tags),
+        numbers-zeros 8 (entries s) (n .«data»),
+        e,
       )
 
 -- The parts that are lent are those of the trace.

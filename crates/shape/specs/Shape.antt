@@ -3,6 +3,7 @@ use Prim.Native.Nat.{ℕ, _+_, _*_, _-_, _/_, _%_}
 use mathlib.Core.Bool.{Bool, cond, _&&_, _||_}
 use lib.Dec.{eqb, leb}
 use Rattle.shape.specs.declared.Shape.{Shape}
+use Rattle.shape.specs.declared.Sizes.{Sizes}
 use Rattle.shape.specs.declared.Place.{Place}
 use Rattle.shape.specs.Range.{range, endsBy}
 
@@ -54,6 +55,9 @@ statesBytes s = entries s
 
 abbrev pub dataBytes : Shape → ℕ
 dataBytes s = 8 * entries s
+
+abbrev pub sizesOf : Shape → Sizes
+sizesOf s = record { memory = memoryBytes s; tags = tagsBytes s; states = statesBytes s; «data» = dataBytes s }
 
 -- Main memory and the three tables, of the lengths given, have exactly those that the shape gives.
 unfoldable pub fits : Shape → ℕ → ℕ → ℕ → ℕ → Bool

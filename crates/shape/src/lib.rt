@@ -5,7 +5,7 @@ use range::Range;
 ghost use mathlib.Core.Path.{_≡_};
 ghost use mathlib.Core.Bool.{true};
 ghost use Prim.Native.Nat.{_<_, _≤_, _+_, _-_, _/_, _%_, _^_};
-ghost use Rattle.shape.specs.Shape.{unranged, isSets, inRange, entries, entryNumber, memoryBytes, tagsBytes, statesBytes, dataBytes};
+ghost use Rattle.shape.specs.Shape.{unranged, isSets, inRange, entries, entryNumber, sizesOf};
 ghost use Rattle.shape.specs.Shape.{fits, rangesEmpty, rangesEnd, fitRefusal, refusalOf, placeOf};
 
 // How many ports there are, how many sets each port's direct-mapped cache has, and how many lines main memory has; the lines on which every
@@ -16,6 +16,14 @@ pub struct Shape {
     pub lines: usize,
     pub scratch: Range,
     pub device: Range,
+}
+
+// Main memory and the three tables in bytes: eight for a word, four for a tag, one for a state.
+pub struct Sizes {
+    pub memory: usize,
+    pub tags: usize,
+    pub states: usize,
+    pub data: usize,
 }
 
 // Where a line lies: its index and tag, and the number of lines with that index. An entry at the index has a home line below lines
@@ -108,34 +116,17 @@ impl Shape {
         p * self.sets + index
     }
 
-    // The bytes of main memory: eight for each line's word.
-    pub fn memory_bytes(self) -> usize
+    pub fn sizes(self) -> Sizes
         requires { ⌜ inRange self ≡ true ⌝ }
-        ensures { λ r. ⌜ r ≡ memoryBytes self ⌝ }
+        ensures { λ r. ⌜ r ≡ sizesOf self ⌝ }
     {
-        8 * self.lines
-    }
-
-    // The bytes of each of the three tables: four for a tag, one for a state, eight for a word.
-    pub fn tags_bytes(self) -> usize
-        requires { ⌜ inRange self ≡ true ⌝ }
-        ensures { λ r. ⌜ r ≡ tagsBytes self ⌝ }
-    {
-        4 * self.entries()
-    }
-
-    pub fn states_bytes(self) -> usize
-        requires { ⌜ inRange self ≡ true ⌝ }
-        ensures { λ r. ⌜ r ≡ statesBytes self ⌝ }
-    {
-        self.entries()
-    }
-
-    pub fn data_bytes(self) -> usize
-        requires { ⌜ inRange self ≡ true ⌝ }
-        ensures { λ r. ⌜ r ≡ dataBytes self ⌝ }
-    {
-        8 * self.entries()
+        let n = self.entries();
+        Sizes {
+            memory: 8 * self.lines,
+            tags: 4 * n,
+            states: n,
+            data: 8 * n,
+        }
     }
 
     // The lengths of main memory and of the tables are those of the shape.

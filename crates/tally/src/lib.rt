@@ -78,10 +78,11 @@ fn tally_orders(shape: Shape, orders: usize, trace: &[u8], row: &mut [u8])
     ensures { λ r. ⌜ totalsIn (now (row .exit)) ≡ totalsWith shape (traceOrders orders (now (trace .entry))) (start shape)
         (totalsIn (now (row .entry))) ⌝ }
 {
-    let memory_bytes = shape.memory_bytes();
-    let tags_bytes = shape.tags_bytes();
-    let states_bytes = shape.states_bytes();
-    let data_bytes = shape.data_bytes();
+    let sizes = shape.sizes();
+    let memory_bytes = sizes.memory;
+    let tags_bytes = sizes.tags;
+    let states_bytes = sizes.states;
+    let data_bytes = sizes.data;
     let mut memory = [0u8; Shape::MAX_MEMORY_BYTES];
     let mut tags = [0u8; Shape::MAX_TAGS_BYTES];
     let mut states = [0u8; Shape::MAX_STATES_BYTES];

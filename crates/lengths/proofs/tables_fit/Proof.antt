@@ -8,4 +8,4 @@ returns : tie.Need-returns
 returns c = search tables-held
 
 pub tables-fit-spec : {M : Type 1} → statement M
-tables-fit-spec = tie.close (tie.spec (λ c κs. search needs) (λ c κs. search needs) (λ c κs. search needs) returns)
+tables-fit-spec = tie.close (tie.spec (λ c κs. search needs) returns)
