@@ -1,7 +1,7 @@
 #!/usr/bin/env python3
-"""Tests the published tables as a chip designer uses them: a design built from the comma separated form alone answers as the library does and
-leaves the states that the library leaves, from fresh it goes by exactly the rows that say "audit yes", and the text has the same rows. Prints a
-line per test."""
+"""Tests the published tables as a chip designer uses them: a design built from the rows of the comma separated form, and from the scope's words on
+lines, merging and swaps, answers as the library does and leaves the states that the library leaves; from fresh it goes by exactly the rows that say
+"audit yes"; and the text has the same rows. Prints a line per test."""
 
 import argparse
 import csv
@@ -48,7 +48,7 @@ def answer(rows, value=0, swapped=0):
 
 
 class Design:
-    """Caches and memory that do what the rows say, and nothing else."""
+    """Caches and memory that take from the rows what becomes of states and words, and what is counted."""
 
     def __init__(self, table, ports, sets, lines):
         self.table, self.ports, self.sets = table, ports, sets
@@ -212,22 +212,42 @@ def rows_of_text(path):
     return rows
 
 
-def alterations(rows):
-    """Every other value of every cell that runs from fresh can show. They can't show what is sent where nobody hears it or where the word does not
-    change, nor from which of several equal words a hit takes its own, nor that a holder takes a word which it has, or which it then gives up; and a
-    flush of a line that the port does not hold changes nothing."""
-    for row in rows:
+def hearers(row):
+    """The states in which, on tables that pass the audit, another holder may hear what the row sends."""
+    if row["table"] == "device-write":
+        return ("S-back", "O", "M") if row["dirty"] == "yes" else ("S-through", "E-through", "S-back", "E-back")
+    if row["table"] != "access" or row["shared"] == "no":
+        return ()
+    if row["state"] == "I":
+        return ("S-back", "O", "M") if row["dirty"] == "yes" else ("S-through", "E-through", "S-back", "E-back")
+    if row["state"] == "S-back" and row["dirty"] == "yes":
+        return ("S-back", "O")
+    return ("S-through",) if row["state"] == "S-through" else ("S-back",)
+
+
+def alike(table, row, command):
+    """No hearer can tell the command from the one that the row sends: its next state is the same, and it takes the line's word by both, or has
+    that word, or gives its entry up."""
+    for state in hearers(row):
+        one, other = (table[("snoop", "", "", "", "", sends, state)] for sends in (row["sends"], command))
+        changed = row["access"] == "write" or row["table"] == "device-write"
+        if one["next"] != other["next"] or one["takes"] != other["takes"] and changed and one["next"] != "I":
+            return False
+    return True
+
+
+def alterations(table):
+    """Every other value of every cell that follows, in rows of tables that pass the audit, but for those that no run from fresh can show: a command
+    that its hearers can't tell from the right one; that a holder takes a word which it has, or an entry which it gives up; and the next state of a
+    flush where the port does not hold the line."""
+    for row in table.values():
         for name in FOLLOWS:
-            hidden = {
-                "sends": row["table"] != "device-write" and (row["shared"], row["access"]) != ("yes", "write"),
-                "word": row["table"] == "access" and row["state"] != "I",
-                "takes": not row["hears"].startswith("update"),
-                "next": row["table"] == "flush" and row["state"] == "I",
-            }
-            if row["audit"] == "no" or not row[name] or hidden.get(name, False):
+            if row["audit"] == "no" or not row[name]:
+                continue
+            if name == "takes" and not row["hears"].startswith("update") or name == "next" and (row["table"], row["state"]) == ("flush", "I"):
                 continue
             for value in VALUES[name]:
-                if value != row[name]:
+                if value != row[name] and not (name == "sends" and alike(table, row, value)):
                     yield row, name, value
 
 
@@ -266,13 +286,13 @@ def main():
         f"{len(met - audited)} others met, {len(audited - met)} not met")
 
     unseen = []
-    chosen = list(alterations(rows))
+    chosen = list(alterations(table))
     for row, name, value in chosen:
         altered = dict(table)
         altered[tuple(row[known] for known in KNOWN)] = {**row, name: value}
         if differs(altered, runs, answers)[0] is None:
             unseen.append((tuple(cell for cell in row.values() if cell), name, value))
-    say(not unseen, f"{len(chosen)} altered cells, each seen", unseen[:3])
+    say(not unseen, f"{len(chosen)} altered values in rows of tables that pass the audit, each seen", unseen[:3])
     sys.exit(1 if failed else 0)
 
 

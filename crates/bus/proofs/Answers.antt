@@ -39,7 +39,7 @@ use Rattle.ports.specs.Masks.{portsFrom, inMask, OfHolders, AllStates}
 use Rattle.bus.specs.Bus.{commandOf, statesAnswered, wordsAnswered, answered}
 use Rattle.ports.proofs.Bytes.{model-eq, refilled}
 use Rattle.ports.proofs.Places.{some, few, number-is, index-is, room, Running, running-first, running-on, running-next, running-fits}
-use Rattle.ports.proofs.Puts.{put-id}
+use Rattle.model.proofs.Puts.{put-id}
 use Rattle.ports.proofs.Masks.{First, mask-half, mask-drop, mask-some, first-of}
 
 in-part : (a j : ℕ) (xs : List ℕ) → a + j < length xs → j < length (midOf a (length xs - a) xs)

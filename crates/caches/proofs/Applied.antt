@@ -24,7 +24,7 @@ use Rattle.ports.specs.Bytes.{Bytes, modelIn, tablesIn}
 use Rattle.ports.specs.Entry.{putAt}
 use Rattle.bus.specs.Bus.{answered}
 use Rattle.ports.proofs.Bytes.{model-eq}
-use Rattle.ports.proofs.Puts.{own-last}
+use Rattle.model.proofs.Puts.{own-last}
 
 -- A store in memory's bytes is a store in its words.
 pub stored : (n : ℕ) (m : List ℕ) {m' : List ℕ} {on : Bool} {k w : ℕ} → on ≡ true → length m ≡ 8 * n → k < n → w < 2 ^ 64

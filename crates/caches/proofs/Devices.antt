@@ -25,7 +25,7 @@ use Rattle.bus.proofs.Answers.{words-kept}
 use Rattle.ports.proofs.Bytes.{model-eq}
 use Rattle.ports.proofs.Masks.{in-mask, of-holders}
 use Rattle.ports.proofs.Places.{some}
-use Rattle.ports.proofs.Puts.{put-ext}
+use Rattle.model.proofs.Puts.{put-ext}
 use Rattle.ports.proofs.Surveys.{masks-holders, masks-dirty}
 use Rattle.caches.proofs.Applied.{held-together}
 

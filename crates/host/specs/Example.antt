@@ -1,5 +1,5 @@
--- The example of README.md as calls on bytes: a run from fresh, of `moesi_step` and `moesi_step_totals` in turn, and the numbers that it answers. The
--- proof, by computation, is in proofs/Example.antt.
+-- The orders of README's example as calls on bytes: a run from fresh, of `moesi_step` and of `moesi_step_totals` on records of zeros, and the numbers
+-- that it answers. The proof, by computation, is in proofs/Example.antt.
 use Prim.Native.Nat.{ℕ}
 use mathlib.Core.Path.{_≡_}
 use mathlib.Core.List.{List, [], _∷_}

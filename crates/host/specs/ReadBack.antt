@@ -19,7 +19,7 @@ use Rattle.host.specs.Host.{inBytes, hostRefusal}
 abbrev pub AreBytes : List ℕ → Type 0
 AreBytes l = (k : ℕ) → getD l k 0 < 256
 
--- What a host lends is bytes. (It cannot be otherwise: the contracts of the C calls, in crates/moesi, say it of all that is lent.)
+-- Main memory and tables as a host lends them are bytes. (It cannot be otherwise: the contracts of the C calls, in crates/moesi, say so.)
 pub record OfBytes (b : Bytes) : Type 0 where
   pub memory : AreBytes (b .memory)
   pub tags : AreBytes (b .tags)

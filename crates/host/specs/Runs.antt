@@ -27,7 +27,8 @@ use Rattle.host.specs.Calls.{StepCall, orderOf, ordersOf, callOn, HasRoo
 abbrev pub AuditsYes : Shape → Bytes → Type 0
 AuditsYes s b = (verdict : List ℕ) → length verdict ≡ 1 → hostAudit s b verdict ≡ hosted 0 b (1 ∷ [])
 
--- A call agrees with the flat memory's answer: the five numbers in its 40 bytes do, and it returns the refusal among them.
+-- A call agrees with the flat memory's answer: it returns the refusal, and of the numbers in its 40 bytes refusal, value (where it is compared) and
+-- swapped are the flat memory's, and the refusal is below 8. Of the two counts nothing is said: the flat memory has none.
 pub record CallAgrees (h : Hosted) (y : FlatAnswer) : Type 0 where
   pub returned : h .refusal ≡ y .refusal
   pub forty : length (h .out) ≡ 40
@@ -45,7 +46,7 @@ HostAgreesOver s (c ∷ cs) b f =
 abbrev pub flatOf : Shape → Bytes → Flat
 flatOf s b = flatStart (numbers 8 (s .lines) (b .memory))
 
--- A run as a host makes it: whatever bytes it lends, `moesi_fresh` returns 0 on them, and then it makes calls.
+-- A run as a host makes it: it lends any bytes on which `moesi_fresh` returns 0, and then it makes calls.
 pub record FreshRun (s : Shape) (b : Bytes) (cs : List StepCall) : Type 0 where
   pub bytes : OfBytes b
   pub accepted : hostFresh s b .refusal ≡ 0

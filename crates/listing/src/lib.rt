@@ -161,35 +161,50 @@ fn put_row(form: Form, r: Row) {
 }
 
 fn put_front() {
+    put(b"# What the model does with every order.\n");
     put(
-        b"# What the model does with every order. A cache's entry is in I, S, E, O or M; S and E have a mode, write through or write\n",
+        b"# A port holds a line if its entry at the line's index is not I and has the line's tag. It owns the line if it holds it in O or M.\n",
     );
     put(
-        b"# back, and O and M are write back. reads, writes: how many memory words are fetched and stored. An entry that becomes I\n",
+        b"# S and E have a mode, write through or write back. O and M are write back. An entry that becomes I keeps its tag and its data.\n",
     );
     put(
-        b"# keeps its tag and its data. audit: whether tables that pass the audit have the row; the other rows arise only on tables\n",
+        b"# An order goes by one row of its own table. A miss goes by a row of take-over too, and each port that hears a command by a row of\n",
     );
-    put(b"# that fail it. A row that no tables have is not printed.\n");
+    put(
+        b"# snoop. reads and writes count the memory words that are fetched and stored; the order's counts are the sums over its rows.\n",
+    );
+    put(
+        b"# All that stands left of `next` is of the time before the order: an owner's word is taken before the owner hears anything.\n",
+    );
+    put(
+        b"# audit: yes if tables that pass the audit meet the row, no if only tables that fail it do. A row that no tables meet is not printed.\n",
+    );
+    put(b"# include/moesi.h explains the fields of an order, the ranges and the audit.\n");
 }
 
 fn access_heading() {
     put(
-        b"\n# An access by a port. read: a read, or a swap that fails; so a swap's bus command goes out when its comparison is known.\n",
+        b"\n# access: a read, write or swap by a port. mode: the order's mode, or that of the range that the line is in. shared: another port holds\n",
     );
     put(
-        b"# write: a write, or a swap that succeeds, which changes the line's word. rewrite: one that leaves it as it was (a silent\n",
+        b"# the line. dirty: some port owns it, and the port itself counts. state: how the port sees the line, I where it misses. word: where the\n",
     );
     put(
-        b"# store). mode: the mode in force. shared: another port holds the line. dirty: some port owns it; the port itself counts.\n",
+        b"# line's word comes from, the port's own entry, the lowest-numbered owner, or memory. A read and a swap answer this word.\n",
     );
     put(
-        b"# state: how the port sees the line, I where it misses. sends: what the other holders hear. word: where the line's word\n",
+        b"# read: a read, or a swap that fails; so a swap's command goes out when its comparison is known. write: a write or a successful swap\n",
     );
     put(
-        b"# comes from, the port's own entry, the lowest-numbered owner, or memory. Then the word is merged, if the access writes, and\n",
+        b"# that changes the line's word. rewrite: a write or a successful swap that leaves all 64 bits as they were (a silent store).\n",
     );
-    put(b"# goes into the port's entry; where writes is 1 it is stored in memory.\n");
+    put(
+        b"# sends: the command that every other holder hears. A write or rewrite merges the operand into the word, byte by byte under the mask.\n",
+    );
+    put(
+        b"# The word then goes into the port's entry, and into memory where the column writes is 1.\n",
+    );
     put(
         b"access   mode     shared  dirty   state      next       sends           word    reads   writes  audit\n",
     );
@@ -197,37 +212,42 @@ fn access_heading() {
 
 fn snoop_heading() {
     put(
-        b"\n# Another port that holds the line, and hears a bus command. takes: it takes the line's new word.\n",
+        b"\n# snoop: what a holder does when it hears a command. On an access every other holder hears, on a device write every holder.\n",
     );
+    put(b"# takes: the holder takes the line's new word.\n");
     put(b"hears           state      next       takes   reads   writes  audit\n");
 }
 
 fn taken_heading() {
     put(
-        b"\n# The entry that a miss takes over: the port's own at the line's index, which is I or of another line. Where writes is 1,\n",
+        b"\n# take-over: a miss takes over the port's own entry at the line's index. That entry is I, or it is of another line. Where writes is 1,\n",
     );
-    put(b"# its word is stored at its home line, before all else. Then its tag is the line's.\n");
+    put(
+        b"# its word is stored at its home line before all else. Then the entry has the line's tag.\n",
+    );
     put(b"state      reads   writes  audit\n");
 }
 
 fn flush_heading() {
     put(
-        b"\n# A flush by a port. state: how the port sees the line; where that is I, nothing changes. Where writes is 1, the port's\n",
+        b"\n# flush: a flush by a port. No other port hears of it. Where writes is 1, the port's word is stored in memory. state: how the port\n",
     );
-    put(b"# word is stored in memory.\n");
-    put(b"state      next       sends           reads   writes  audit\n");
+    put(b"# sees the line. I: the port does not hold the line, and its entry stays as it is.\n");
+    put(b"state      next       reads   writes  audit\n");
 }
 
 fn device_write_heading() {
     put(
-        b"\n# A device write. The word is merged with what the device writes, and stored in memory. Every holder hears the command.\n",
+        b"\n# device-write: a device writes. The operand is merged into the word, and the word is stored in memory. Every holder hears the command.\n",
     );
     put(b"dirty   sends           word    reads   writes  audit\n");
 }
 
 fn device_read_heading() {
-    put(b"\n# A device read: the answer is memory's word, whatever the caches hold.\n");
-    put(b"sends           word    reads   writes  audit\n");
+    put(
+        b"\n# device-read: a device reads. The answer is memory's word, whatever the caches hold. No port hears of it.\n",
+    );
+    put(b"word    reads   writes  audit\n");
 }
 
 // The heading in front of the first case of a table.
@@ -263,8 +283,9 @@ pub fn put_tables(form: Form) {
             )
         }
     }
+    let count = rows::case_count();
     let mut k: u8 = 0;
-    while k < rows::CASES {
+    while k < count {
         put_case(form, k);
         k += 1;
     }

@@ -3,6 +3,7 @@ pub mod Below
 pub mod Loops
 pub mod Line
 pub mod Entries
+pub mod Puts
 pub mod Touched
 pub mod Applied
 pub mod Written

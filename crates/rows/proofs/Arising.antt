@@ -1,22 +1,20 @@
 -- Every row by which an order goes is printed; and on tables that pass the audit it says that such tables have it. Assumes nothing.
 use Prim.Native.Nat.{ℕ, zero, suc, _<_}
-use mathlib.Core.Path.{refl, sym}
+use mathlib.Core.Path.{_≡_, refl, sym, subst, _∙_}
 use mathlib.Core.Logic.{_≢_}
 use mathlib.Core.Bool.{Bool, true, false, cond, _&&_, not}
-use mathlib.Core.List.{List, _∷_}
+use mathlib.Core.List.{List, [], _∷_}
 use native.Mathlib.Omega.{arith}
 use native.Mathlib.Decide.{ℕ-discrete}
 use lib.Dec.{eqb}
 use borrow.Author.Tests.{ne-eqb, eq-eqb}
 use Rattle.words.specs.Bools.{implies}
-use Rattle.words.specs.Access.{effectAt}
 use Rattle.words.proofs.Bools.{Is, and-l, and-r, both, mp, imp, contra, not-both, not-is, by-bool, by-cond}
 use Rattle.protocol.specs.declared.state.Mode.{Mode}
 use Rattle.protocol.specs.declared.state.State.{State}
 use Rattle.protocol.specs.declared.state.State.the-variants.{I, E, M}
 use Rattle.words.specs.declared.access.Outcome.{Outcome}
 use Rattle.protocol.specs.declared.rules.Bus.{Bus}
-use Rattle.protocol.specs.declared.rules.Bus.the-variants.{Invalidate}
 use Rattle.protocol.specs.State.{valid, owner, exclusive, modeOf, isThrough}
 use Rattle.protocol.specs.Rules.{rule, snooped}
 use Rattle.protocol.proofs.Finite.{forStates, at-state}
@@ -29,14 +27,15 @@ use Rattle.model.specs.declared.order.Decoded.{Decoded}
 use Rattle.model.specs.declared.order.Decoded.the-variants.{Asked, Refused}
 use Rattle.model.specs.Order.{decode, There}
 use Rattle.model.specs.Tables.{Model, seen, holds, owns, dirty}
-use Rattle.model.specs.Step.{shared, wordFound, accessRule}
+use Rattle.model.specs.Step.{shared}
 use Rattle.model.specs.Audit.{audit}
 use Rattle.model.proofs.Below.{any-below, none-below, below-none}
 use Rattle.model.proofs.Decoded.{Sound, decode-sound}
 use Rattle.model.proofs.Audited.{audit-facts, facts-good}
 use Rattle.rows.specs.Cases.{Case, own, snoop, arises, printed, ownAudited, snoopAudited, audited}
-use Rattle.rows.specs.Orders.{heardBy, others, casesOf, rowsOf, everyRow}
-use Rattle.rows.specs.Claims.{RowsArePrinted, RowsAreAudited}
+use Rattle.rows.specs.Orders.{effectHere, heardBy, others, casesOf, rowsOf, orderRows, everyRow}
+use Rattle.rows.specs.Claims.{saysAudited, RowsArePrinted, RowsAreAudited}
+use Rattle.rows.proofs.Cells.{sent-own, sent-device, audited-says}
 
 -- A test of the rows of those who hear a command.
 pub every-heard : (f : Case → Bool) (s : Shape) (t : Model) (a : ℕ) (asked : ℕ → Bool) (b : Bus) (n : ℕ)
@@ -146,18 +145,22 @@ call-printed s t (ByPort acc m i) a there =
     (every-heard printed s t a (others s t i a) _ (s .ports) (λ p h o. and-r (not (eqb p i)) (holds s t a p) o)))
 call-printed s t (Flush i) a there = refl
 call-printed s t DeviceRead a there = refl
-call-printed s t (DeviceWrite mask x) a there = every-heard printed s t a (holds s t a) Invalidate (s .ports) (λ p h v. v)
+call-printed s t (DeviceWrite mask x) a there = every-heard printed s t a (holds s t a) _ (s .ports) (λ p h v. v)
 
 call-audited : (s : Shape) (t : Model) → Is (audit s t) → (c : Call) (a : ℕ) → There s c a → Rows audited s t c a
-unfolding casesOf everyRow audited snoopAudited accessRule
+unfolding casesOf everyRow audited snoopAudited
 call-audited s t pass (ByPort acc m i) a there =
+    let k = effectHere s t i a m acc .outcome in
     both (own-audited s t pass a i (there .1) (there .0))
     (every-taken audited (holds s t a i) _ _ refl
-    (every-heard audited s t a (others s t i a) _ (s .ports)
-    (other-audited s t pass a i (there .1) (there .0) (effectAt acc (wordFound s t i a) .outcome) m)))
+    (every-heard audited s t a (others s t i a) _ (s .ports) (λ p h o.
+    subst (λ b. Is (audited (snoop b (seen s t a p)))) (sym (sent-own k m (shared s t i a) (dirty s t a) (seen s t a i)))
+    (other-audited s t pass a i (there .1) (there .0) k m p h o))))
 call-audited s t pass (Flush i) a there = refl
 call-audited s t pass DeviceRead a there = refl
-call-audited s t pass (DeviceWrite mask x) a there = every-heard audited s t a (holds s t a) Invalidate (s .ports) (λ p h v. both v refl)
+call-audited s t pass (DeviceWrite mask x) a there =
+    every-heard audited s t a (holds s t a) _ (s .ports) (λ p h v.
+    subst (λ b. Is (audited (snoop b (seen s t a p)))) (sym (sent-device (dirty s t a))) (both v refl))
 
 -- And of what an order word is taken apart into.
 every-row : (f : Case → Bool) (s : Shape) (t : Model) → ((c : Call) (a : ℕ) → There s c a → Rows f s t c a)
@@ -169,5 +172,12 @@ every-row f s t h (Asked c a) k = h c a k
 pub rows-are-printed : RowsArePrinted
 rows-are-printed s t o = every-row printed s t (call-printed s t) (decode s o) (decode-sound s o)
 
+-- What is said by one test is said by another that is the same at each row.
+every-same : (f g : Case → Bool) → ((c : Case) → f c ≡ g c) → (l : List Case) → Is (everyRow g l) → Is (everyRow f l)
+unfolding everyRow
+every-same f g e [] h = refl
+every-same f g e (c ∷ l) h = both (e c ∙ and-l (g c) (everyRow g l) h) (every-same f g e l (and-r (g c) (everyRow g l) h))
+
 pub rows-are-audited : RowsAreAudited
-rows-are-audited s t o pass = every-row audited s t (call-audited s t pass) (decode s o) (decode-sound s o)
+rows-are-audited s t o pass =
+    every-same saysAudited audited audited-says (orderRows s t o) (every-row audited s t (call-audited s t pass) (decode s o) (decode-sound s o))

@@ -9,16 +9,17 @@ use Rattle.words.proofs.Bools.{Is, and-l, and-r, mp}
 use Rattle.protocol.specs.declared.state.Mode.{Mode}
 use Rattle.protocol.specs.declared.state.State.{State}
 use Rattle.protocol.specs.declared.rules.Bus.{Bus}
-use Rattle.protocol.specs.Coded.{busNumber}
+use Rattle.protocol.specs.Coded.{busNumber, busAt}
 use Rattle.protocol.proofs.Finite.{forBools, forModes, forOutcomes, forStates, forBuses, at-bool, at-mode, at-outcome, at-state, at-bus}
 use Rattle.model.specs.Step.{step}
 use Rattle.model.specs.Audit.{entriesSound, everyTwo, linePasses, tablesPass, audit}
 use Rattle.model.proofs.Computing.{computing}
 use Rattle.rows.specs.Cases.{Case, own, snoop, takeOver, flush, deviceWrite, deviceRead, arises, printed, ownAudited, snoopAudited, audited}
 use Rattle.rows.specs.Cases.{caseNumber, sameCase}
-use Rattle.rows.specs.Orders.{heardBy, casesOf, rowsOf, orderRows, anyRow}
+use Rattle.rows.specs.Cells.{sourceOf, readsIn, writesIn, rowOf}
+use Rattle.rows.specs.Orders.{wordFrom, effectHere, heardBy, casesOf, rowsOf, orderRows, anyRow}
 use Rattle.rows.specs.Examples.{twoPorts, exampleOf}
-use Rattle.rows.specs.Claims.{Arises, PrintedArise}
+use Rattle.rows.specs.Claims.{saysAudited, Arises, PrintedArise}
 
 -- The three facts of a case's example, as one test.
 abbrev accepts : Case → Bool
@@ -28,7 +29,7 @@ abbrev goes : Case → Bool
 goes c = anyRow (sameCase c) (orderRows twoPorts (exampleOf c .tables) (exampleOf c .order))
 
 abbrev passes : Case → Bool
-passes c = implies (audited c) (audit twoPorts (exampleOf c .tables))
+passes c = implies (saysAudited c) (audit twoPorts (exampleOf c .tables))
 
 test : Case → Bool
 test c = implies (printed c) (accepts c && goes c && passes c)
@@ -60,7 +61,7 @@ snoop-tested : Is (forBuses (λ b. forStates (λ s. test (snoop b s)))) → (b :
 snoop-tested h b s = at-state (λ s. test (snoop b s)) (at-bus (λ b. forStates (λ s. test (snoop b s))) h b) s
 
 all-tested : (c : Case) → Is (test c)
-unfolding computing test ownTests arises printed ownAudited snoopAudited audited caseNumber busNumber heardBy casesOf rowsOf anyRow exampleOf
+unfolding computing test ownTests arises printed ownAudited snoopAudited audited caseNumber busNumber sourceOf readsIn writesIn rowOf wordFrom effectHere busAt heardBy casesOf rowsOf anyRow exampleOf
     entriesSound everyTwo linePasses tablesPass audit
 all-tested (own k m shared dirty s) = own-tested refl k m shared dirty s
 all-tested (snoop b s) = snoop-tested refl b s

@@ -4,4 +4,4 @@ pub mod Arising
 pub mod Examples
 pub mod Places
 pub mod Counts
-pub mod Bytes
+pub mod Design

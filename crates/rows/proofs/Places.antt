@@ -4,7 +4,7 @@ use mathlib.Core.Path.{_≡_, refl, _∙_}
 use mathlib.Core.Bool.{Bool, true, false, false≢true}
 use native.Mathlib.Omega.{arith}
 use lib.Dec.{eqb, ltb}
-use borrow.Author.Tests.{lt-ltb, le-ltb}
+use borrow.Author.Tests.{eqb-true, lt-ltb, le-ltb}
 use Rattle.words.specs.Bools.{bit}
 use Rattle.words.specs.declared.access.Outcome.{Outcome}
 use Rattle.words.specs.declared.access.Outcome.the-variants.{Reads, Writes, Rewrites}
@@ -21,7 +21,7 @@ use Rattle.model.specs.Below.{allBelow}
 use Rattle.model.proofs.Below.{below-all}
 use Rattle.rows.specs.Cases.{Case, own, snoop, takeOver, flush, deviceWrite, deviceRead, printed, cases, caseNumber, caseAt}
 use Rattle.rows.specs.Cases.{outcomeNumber, outcomeInTurn, stateNumber, stateInTurn, ownAt, snoopAt}
-use Rattle.rows.specs.Claims.{PrintedStand}
+use Rattle.rows.specs.Claims.{Places}
 
 -- Digits: what stands at a number's place.
 digits : (k m b d s : ℕ) → k < 3 → m < 2 → b < 2 → d < 2 → s < 7
@@ -162,7 +162,7 @@ flush-stands s =
     let off : 217 + stateNumber s - 217 ≡ stateNumber s = omega arith in
     (omega (arith, turn .0), flush-part _ (omega arith) (omega (arith, turn .0)) ∙ rw (off, turn .1))
 
-pub printed-stand : PrintedStand
+printed-stand : (c : Case) → Is (printed c) → Stands c
 unfolding caseNumber caseAt printed
 printed-stand (own k m shared dirty s) h = own-stands k m shared dirty s
 printed-stand (snoop b s) h = snoop-stands b s h
@@ -171,3 +171,11 @@ printed-stand (flush s) h = flush-stands s
 printed-stand (deviceWrite true) h = (omega arith, refl)
 printed-stand (deviceWrite false) h = (omega arith, refl)
 printed-stand deviceRead h = (omega arith, refl)
+
+-- Each number is that of the case at it: computed over all of them.
+number-again : (k : ℕ) → k < cases → caseNumber (caseAt k) ≡ k
+unfolding caseNumber caseAt outcomeInTurn modeAt busAt busNumber stateInTurn allBelow
+number-again k h = eqb-true _ _ (below-all (λ k. eqb (caseNumber (caseAt k)) k) cases refl k h)
+
+pub places : Places
+places = record { stands = printed-stand; apart = number-again }

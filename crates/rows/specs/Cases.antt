@@ -50,8 +50,8 @@ heldThrough s = valid s && isThrough (modeOf s)
 unfoldable pub ownAudited : Bool → Bool → State → Bool
 ownAudited shared dirty s = arises shared dirty s && implies (exclusive s) (not shared) && implies (heldThrough s) (not dirty)
 
--- On such tables who speaks on a hit holds the line beside the one who hears: neither is in E or M. To share in write back is said on a hit in
--- write through. The other commands are said on a miss, or by a device.
+-- On such tables a port that sends on a hit holds the line beside the hearer, so neither is in E or M; and it sends that all share in write back only
+-- where it is in write through. The other commands are sent on a miss too, or by a device.
 unfoldable pub snoopAudited : Bus → State → Bool
 snoopAudited Quiet s = not (exclusive s)
 snoopAudited (Share Through) s = true
@@ -124,5 +124,6 @@ caseAt k =
     (cond (ltb k 226) (deviceWrite (eqb k 225))
     deviceRead))))
 
+-- Two cases with one number. (A holder in I has no number of its own, and no row.)
 abbrev pub sameCase : Case → Case → Bool
 sameCase c d = eqb (caseNumber c) (caseNumber d)

@@ -2,7 +2,7 @@
 use Prim.Native.Nat.{ℕ}
 use mathlib.Core.Bool.{Bool, false, cond, _&&_, not}
 use Rattle.words.specs.Bools.{bit}
-use Rattle.protocol.specs.declared.rules.Bus.the-variants.{Quiet, Invalidate}
+use Rattle.protocol.specs.declared.rules.Bus.the-variants.{Invalidate}
 use Rattle.protocol.specs.State.{code, valid, owner}
 use Rattle.protocol.specs.Rules.{rule, flushRule, snooped, updates}
 use Rattle.protocol.specs.Coded.{busNumber, modeNumber}
@@ -56,7 +56,19 @@ row table access mode shared dirty hears state next sends word takes c = record 
   audited = bit (audited c);
 }
 
--- A row of a table whose other cells are blank, that makes no memory access and that such tables have.
+unfoldable pub rowOf : Case → Row
+rowOf (own k m shared dirty s) =
+    let r = rule k m shared dirty s in
+    row 0 (outcomeNumber k) (modeNumber m) (bit shared) (bit dirty) blank (code s) (code (r .own)) (busNumber (r .bus)) (sourceOf (valid s) dirty) blank
+    (own k m shared dirty s)
+rowOf (snoop b s) = row 1 blank blank blank blank (busNumber b) (code s) (code (snooped b s)) blank blank (bit (updates b)) (snoop b s)
+rowOf (takeOver s) = row 2 blank blank blank blank blank (code s) blank blank blank blank (takeOver s)
+rowOf (flush s) = row 3 blank blank blank blank blank (code s) (code (flushRule s .own)) blank blank blank (flush s)
+rowOf (deviceWrite dirty) =
+    row 4 blank blank blank (bit dirty) blank blank blank (busNumber Invalidate) (sourceOf false dirty) blank (deviceWrite dirty)
+rowOf deviceRead = row 5 blank blank blank blank blank blank blank blank (sourceOf false false) blank deviceRead
+
+-- For the code: a row of a table before its cells are filled in, with no memory access, and met on tables that pass the audit.
 abbrev pub blankRow : ℕ → Row
 blankRow table = record {
   table = table;
@@ -74,17 +86,3 @@ blankRow table = record {
   writes = 0;
   audited = 1;
 }
-
-unfoldable pub rowOf : Case → Row
-rowOf (own k m shared dirty s) =
-    let r = rule k m shared dirty s in
-    row 0 (outcomeNumber k) (modeNumber m) (bit shared) (bit dirty) blank (code s) (code (r .own)) (busNumber (r .bus)) (sourceOf (valid s) dirty) blank
-    (own k m shared dirty s)
-rowOf (snoop b s) = row 1 blank blank blank blank (busNumber b) (code s) (code (snooped b s)) blank blank (bit (updates b)) (snoop b s)
-rowOf (takeOver s) = row 2 blank blank blank blank blank (code s) blank blank blank blank (takeOver s)
-rowOf (flush s) =
-    let r = flushRule s in
-    row 3 blank blank blank blank blank (code s) (code (r .own)) (busNumber (r .bus)) blank blank (flush s)
-rowOf (deviceWrite dirty) =
-    row 4 blank blank blank (bit dirty) blank blank blank (busNumber Invalidate) (sourceOf false dirty) blank (deviceWrite dirty)
-rowOf deviceRead = row 5 blank blank blank blank blank blank blank (busNumber Quiet) (sourceOf false false) blank deviceRead

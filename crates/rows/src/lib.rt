@@ -11,17 +11,11 @@ ghost use Prim.Native.Nat.{_<_};
 ghost use Rattle.protocol.specs.State.{valid, owner, exclusive};
 ghost use Rattle.protocol.specs.Coded.{busAt, modeNumber, modeAt};
 ghost use Rattle.rows.specs.Cases.{own, snoop, takeOver, flush, deviceWrite, deviceRead};
-ghost use Rattle.rows.specs.Cases.{outcomeNumber, outcomeInTurn, stateInTurn, arises, heldThrough, printed, ownAudited, snoopAudited, ownAt, snoopAt, caseAt};
+ghost use Rattle.rows.specs.Cases.{outcomeNumber, outcomeInTurn, stateInTurn, arises, heldThrough, printed, ownAudited, snoopAudited, cases, ownAt, caseAt};
 ghost use Rattle.rows.specs.Cells.{sourceOf, blankRow, rowOf};
-
-// How many cases there are, those that have no row among them.
-pub const CASES: u8 = 227;
 
 // A cell that a table does not have.
 pub const BLANK: u8 = 255;
-
-// The number of the bus command that says nothing.
-const QUIET: u8 = 0;
 
 // A row by its cells: the table, then what is known before, what follows, and whether tables that pass the audit have the case. States are
 // by their bytes, bus commands by their numbers; an outcome is 0 for a read, 1 for a write, 2 for a rewrite; a mode 0 for write through; a
@@ -270,7 +264,6 @@ fn flush_row(s: State) -> Row
     let mut row = blank_row(3);
     row.state = state::state_byte(s);
     row.next = state::state_byte(State::I);
-    row.sends = QUIET;
     row.writes = number(is_owned(s));
     row
 }
@@ -293,7 +286,6 @@ fn device_read_row() -> Row
     ensures { λ r. ⌜ r ≡ rowOf deviceRead ⌝ }
 {
     let mut row = blank_row(5);
-    row.sends = QUIET;
     row.word = source_of(false, false);
     row.reads = 1;
     row
@@ -312,6 +304,13 @@ fn own_row_at(k: u8) -> Row
         dirty,
         state_at(k % 7),
     )
+}
+
+// How many cases there are, those that have no row among them.
+pub fn case_count() -> u8
+    ensures { λ r. ⌜ r ≡ cases ⌝ }
+{
+    227u8
 }
 
 // The row of the case at a number.

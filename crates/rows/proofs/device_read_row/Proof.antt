@@ -1,13 +1,12 @@
 -- `device_read_row` has the cells of a device read. Assumes nothing.
 use borrow.Author.Needs.{needs}
-use Rattle.protocol.specs.Coded.{busNumber}
 use Rattle.rows.specs.Cases.{audited}
 use Rattle.rows.specs.Cells.{readsIn, writesIn, rowOf}
 use Rattle.rows.proofs.device_read_row.Statement.{statement}
 use Rattle.rows.proofs.device_read_row.Tie as tie
 
 returns : tie.Need-returns
-unfolding busNumber rowOf readsIn writesIn audited
+unfolding rowOf readsIn writesIn audited
 returns c = rw (c .source-of .ensures, c .before .blank-row .ensures)
 
 pub device-read-row-spec : {M : Type 1} → statement M

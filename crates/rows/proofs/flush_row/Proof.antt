@@ -1,14 +1,13 @@
 -- `flush_row` has the cells of a flush. Assumes nothing.
 use borrow.Author.Needs.{needs}
 use Rattle.protocol.specs.Rules.{flushRule}
-use Rattle.protocol.specs.Coded.{busNumber}
 use Rattle.rows.specs.Cases.{audited}
 use Rattle.rows.specs.Cells.{readsIn, writesIn, rowOf}
 use Rattle.rows.proofs.flush_row.Statement.{statement}
 use Rattle.rows.proofs.flush_row.Tie as tie
 
 returns : tie.Need-returns
-unfolding flushRule busNumber rowOf readsIn writesIn audited
+unfolding flushRule rowOf readsIn writesIn audited
 returns c =
     rw (
       c .number .ensures,
