@@ -14,14 +14,16 @@ use Rattle.protocol.specs.declared.state.Mode.the-variants.{Through, Back}
 use Rattle.protocol.specs.declared.state.State.{State}
 use Rattle.protocol.specs.declared.state.State.the-variants.{I, S, E, O, M}
 use Rattle.protocol.specs.declared.rules.Bus.{Bus}
-use Rattle.protocol.specs.declared.rules.Bus.the-variants.{Quiet, Share, Update, Invalidate, ShareOwned}
 use Rattle.protocol.specs.State.{valid}
 use Rattle.protocol.specs.Coded.{modeNumber, modeAt, busNumber, busAt}
+use Rattle.protocol.proofs.Rows.{bus-below, bus-at}
+use Rattle.protocol.proofs.States.{stateOf-code}
 use Rattle.model.specs.Below.{allBelow}
 use Rattle.model.proofs.Below.{below-all}
 use Rattle.rows.specs.Cases.{Case, own, snoop, takeOver, flush, deviceWrite, deviceRead, printed, cases, caseNumber, caseAt}
 use Rattle.rows.specs.Cases.{outcomeNumber, outcomeInTurn, stateNumber, stateInTurn, ownAt, snoopAt}
-use Rattle.rows.specs.Claims.{Places}
+use Rattle.rows.specs.Cells.{rowOf, caseNamed}
+use Rattle.rows.specs.Claims.{Places, CellsNameCases}
 
 -- Digits: what stands at a number's place.
 digits : (k m b d s : ℕ) → k < 3 → m < 2 → b < 2 → d < 2 → s < 7
@@ -64,16 +66,6 @@ held-number (E Through) h = omega arith
 held-number (E Back) h = omega arith
 held-number O h = omega arith
 held-number M h = omega arith
-
-bus-turn : (b : Bus) → (busNumber b < 7) × (busAt (busNumber b) ≡ b)
-unfolding busNumber busAt
-bus-turn Quiet = (omega arith, refl)
-bus-turn (Share Through) = (omega arith, refl)
-bus-turn (Share Back) = (omega arith, refl)
-bus-turn (Update Through) = (omega arith, refl)
-bus-turn (Update Back) = (omega arith, refl)
-bus-turn Invalidate = (omega arith, refl)
-bus-turn ShareOwned = (omega arith, refl)
 
 -- What stands at a number, by the part of the tables that it is in.
 pub own-part : (n : ℕ) → n < 168 → caseAt n ≡ ownAt n
@@ -144,9 +136,9 @@ snoop-stands b s v =
     let turn : n + 1 ≡ stateNumber s = omega (arith, held-number s v) in
     let first : (busNumber b * 6 + n) / 6 ≡ busNumber b = omega (arith, small) in
     let second : (busNumber b * 6 + n) % 6 ≡ n = omega (arith, small) in
-    let inside : busNumber b * 6 + n < 42 = omega (arith, small, bus-turn b .0) in
+    let inside : busNumber b * 6 + n < 42 = omega (arith, small, bus-below b) in
     let off : 168 + (busNumber b * 6 + n) - 168 ≡ busNumber b * 6 + n = omega arith in
-    (omega (arith, inside), snoop-part _ (omega arith) (omega (arith, inside)) ∙ rw (off, first, second, turn, bus-turn b .1, state-turn s .1))
+    (omega (arith, inside), snoop-part _ (omega arith) (omega (arith, inside)) ∙ rw (off, first, second, turn, bus-at b, state-turn s .1))
 
 take-stands : (s : State) → Stands (takeOver s)
 unfolding caseNumber
@@ -179,3 +171,14 @@ number-again k h = eqb-true _ _ (below-all (λ k. eqb (caseNumber (caseAt k)) k)
 
 pub places : Places
 places = record { stands = printed-stand; apart = number-again }
+
+-- The cells of a row name its case.
+pub cells-name-cases : CellsNameCases
+unfolding rowOf caseNamed
+cells-name-cases (own k m shared dirty s) =
+    rw (outcome-turn k .1, mode-turn m .1, bit-turn shared .1, bit-turn dirty .1, stateOf-code s)
+cells-name-cases (snoop b s) = rw (bus-at b, stateOf-code s)
+cells-name-cases (takeOver s) = rw (stateOf-code s)
+cells-name-cases (flush s) = rw (stateOf-code s)
+cells-name-cases (deviceWrite dirty) = rw (bit-turn dirty .1)
+cells-name-cases deviceRead = refl

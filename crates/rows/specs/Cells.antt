@@ -1,13 +1,14 @@
 -- What stands in a row: its cells as numbers. A cell that a table does not have is blank.
 use Prim.Native.Nat.{ℕ}
 use mathlib.Core.Bool.{Bool, false, cond, _&&_, not}
+use lib.Dec.{eqb}
 use Rattle.words.specs.Bools.{bit}
 use Rattle.protocol.specs.declared.rules.Bus.the-variants.{Invalidate}
-use Rattle.protocol.specs.State.{code, valid, owner}
+use Rattle.protocol.specs.State.{code, stateOf, orInvalid, valid, owner}
 use Rattle.protocol.specs.Rules.{rule, flushRule, snooped, updates}
-use Rattle.protocol.specs.Coded.{busNumber, modeNumber}
+use Rattle.protocol.specs.Coded.{busNumber, busAt, modeNumber, modeAt}
 use Rattle.rows.specs.declared.Row.{Row}
-use Rattle.rows.specs.Cases.{Case, own, snoop, takeOver, flush, deviceWrite, deviceRead, audited, outcomeNumber}
+use Rattle.rows.specs.Cases.{Case, own, snoop, takeOver, flush, deviceWrite, deviceRead, audited, outcomeNumber, outcomeInTurn}
 
 abbrev pub blank : ℕ
 blank = 255
@@ -67,6 +68,17 @@ rowOf (flush s) = row 3 blank blank blank blank blank (code s) (code (flushRule 
 rowOf (deviceWrite dirty) =
     row 4 blank blank blank (bit dirty) blank blank blank (busNumber Invalidate) (sourceOf false dirty) blank (deviceWrite dirty)
 rowOf deviceRead = row 5 blank blank blank blank blank blank blank blank (sourceOf false false) blank deviceRead
+
+-- The case that a row is of, by the cells that are known before.
+unfoldable pub caseNamed : Row → Case
+caseNamed r =
+    let state = orInvalid (stateOf (r .state)) in
+    cond (eqb (r .table) 0) (own (outcomeInTurn (r .access)) (modeAt (r .mode)) (eqb (r .shared) 1) (eqb (r .dirty) 1) state)
+    (cond (eqb (r .table) 1) (snoop (busAt (r .hears)) state)
+    (cond (eqb (r .table) 2) (takeOver state)
+    (cond (eqb (r .table) 3) (flush state)
+    (cond (eqb (r .table) 4) (deviceWrite (eqb (r .dirty) 1))
+    deviceRead))))
 
 -- For the code: a row of a table before its cells are filled in, with no memory access, and met on tables that pass the audit.
 abbrev pub blankRow : ℕ → Row

@@ -12,7 +12,7 @@ use Rattle.model.specs.Tables.{Model}
 use Rattle.model.specs.Step.{step, wordFound}
 use Rattle.model.specs.Audit.{audit}
 use Rattle.rows.specs.Cases.{Case, printed, cases, caseNumber, caseAt, sameCase}
-use Rattle.rows.specs.Cells.{rowOf}
+use Rattle.rows.specs.Cells.{rowOf, caseNamed}
 use Rattle.rows.specs.Orders.{says, wordFrom, ownCase, orderRows, everyRow, anyRow, designed}
 use Rattle.rows.specs.Examples.{twoPorts, exampleOf}
 
@@ -41,6 +41,10 @@ PrintedArise = (c : Case) → printed c ≡ true → Arises c
 pub record Places : Type 0 where
   pub stands : (c : Case) → printed c ≡ true → (caseNumber c < cases) × (caseAt (caseNumber c) ≡ c)
   pub apart : (k : ℕ) → k < cases → caseNumber (caseAt k) ≡ k
+
+-- The cells that are known before name the case: no two cases have one row.
+abbrev pub CellsNameCases : Type 0
+CellsNameCases = (c : Case) → caseNamed (rowOf c) ≡ c
 
 -- The rows of all outcomes and modes name one word, and a port finds that word.
 abbrev pub WordsAreNamed : Type 0
