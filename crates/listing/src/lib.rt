@@ -268,8 +268,8 @@ fn put_case(form: Form, k: u8) {
         Form::Text => put_heading(k),
         Form::Comma => {}
     }
-    if rows::is_printed(k) {
-        put_row(form, rows::row_at(k));
+    if cells::is_printed(k) {
+        put_row(form, cells::row_at(k));
     }
 }
 
@@ -283,7 +283,7 @@ pub fn put_tables(form: Form) {
             )
         }
     }
-    let count = rows::case_count();
+    let count = cells::case_count();
     let mut k: u8 = 0;
     while k < count {
         put_case(form, k);
