@@ -1,4 +1,4 @@
--- The rows are the step: a design that has the rows alone does what each call does. Assumes nothing.
+-- The rows are the step: a design that takes the protocol from the rows does what each call does. Assumes nothing.
 use Prim.Native.Nat.{ℕ, _+_, _<_}
 use mathlib.Core.Path.{_≡_, refl, sym, ap, subst, _∙_}
 use mathlib.Core.Logic.{_≢_}

@@ -50,7 +50,8 @@ CellsNameCases = (c : Case) → caseNamed (rowOf c) ≡ c
 abbrev pub WordsAreNamed : Type 0
 WordsAreNamed = (s : Shape) (t : Model) (i a : ℕ) (k : Outcome) (m : Mode) → wordFound s t i a ≡ wordFrom s t i a (rowOf (ownCase s t i a m k) .word)
 
--- The rows are the step: an accepted order answers and leaves what a design does that has the rows alone, on any tables.
+-- The rows are the step: on any tables an accepted order answers and leaves what a design does that takes the protocol from the cells of the rows, and
+-- from the scope where entries lie, how bytes merge and what a swap compares.
 abbrev pub RowsAreStep : Type 0
 RowsAreStep =
     (s : Shape) (t : Model) (o : Order) (c : Call) (a : ℕ) → decode s o ≡ Asked c a → step s o t .answer .refusal ≡ 0
