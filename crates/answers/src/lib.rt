@@ -1,4 +1,6 @@
 // The five numbers of an answer, and their 40 bytes.
+#![tactic(auto)]
+
 ghost use Rattle.std.specs.Prelude.{◌≡◌, ◌+◌, ◌≤◌, length};
 ghost use Rattle.words.specs.Bools.{bit};
 ghost use Rattle.model.specs.Step.{refused, accepted};

@@ -1,5 +1,7 @@
 // The audit of main memory and the tables in bytes, entry by entry: its cost follows the entries, not the lines. What two holders of a line
 // ask of each other is asked once, at the turn of the higher port.
+#![tactic(auto)]
+
 ghost use Rattle.std.specs.Prelude.{◌≡◌, true, ◌<◌, length};
 ghost use Rattle.endian.specs.Little.{numbers};
 ghost use Rattle.protocol.specs.State.{state_of};
@@ -13,7 +15,7 @@ use protocol::{rules, state};
 use shape::Shape;
 
 // One entry of the tables, its state by its class.
-#[derive(Drop)]
+#[derive(Clone, Copy)]
 struct Held {
     tag: u32,
     class: u8,

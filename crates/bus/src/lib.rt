@@ -1,4 +1,6 @@
 // The bus: each holder of a line that is asked answers a command from its own part of the three tables.
+#![tactic(auto)]
+
 ghost use Rattle.std.specs.Prelude.{◌≡◌, ◌+◌, ◌*◌, ◌^◌, ◌<◌};
 ghost use Rattle.protocol.specs.Coded.{bus_at};
 ghost use Rattle.ports.specs.Bytes.{tables_in, Filled};
@@ -12,7 +14,7 @@ use ports::{entry, mask};
 use protocol::rules;
 
 // A bus command as the ports hear it: its row of the snoop table, and whether it hands the new word to the holders.
-#[derive(Drop)]
+#[derive(Clone, Copy)]
 pub struct Command {
     pub row: u64,
     pub hands: bool,

@@ -1,4 +1,6 @@
 // The rows of the published tables, in numbers: which cases have a row, and the cells of each.
+#![tactic(auto)]
+
 ghost use Rattle.std.specs.Prelude.{◌≡◌, ◌<◌};
 ghost use Rattle.words.specs.Bools.{bit};
 ghost use Rattle.protocol.specs.State.{valid, owner, exclusive};

@@ -1,4 +1,6 @@
 // Totals for a run: the counters that an order touches, how an answer is added to them, and the record that holds them all.
+#![tactic(auto)]
+
 ghost use Rattle.std.specs.Prelude.{◌≡◌};
 ghost use Rattle.counters.specs.Counters.{counters_after, Room};
 
@@ -8,7 +10,7 @@ pub mod lent;
 
 // The counters that an order touches: the orders counted where it is (those accepted of its kind, or those refused), memory reads, memory
 // writes, and swaps that succeeded.
-#[derive(Drop)]
+#[derive(Clone, Copy)]
 pub struct Counters {
     pub orders: u64,
     pub reads: u64,

@@ -1,4 +1,6 @@
 // What an access comes to, decided on values before anything is written.
+#![tactic(auto)]
+
 pub mod supply;
 
 ghost use Rattle.std.specs.Prelude.{◌≡◌, true, cond, ◌<◌};
@@ -21,7 +23,7 @@ use words::{access, choose};
 
 // The own entry afterwards; the other holders, a bit for each port, and the number of the bus command that they hear; whether the own word
 // before is evicted from an owner, the home line that it then goes to, and that word; whether the line's word is stored; and the answer.
-#[derive(Drop)]
+#[derive(Clone, Copy)]
 pub struct Decision {
     pub entry: Entry,
     pub others: u64,

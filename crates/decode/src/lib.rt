@@ -1,4 +1,6 @@
 // An order word taken apart, once.
+#![tactic(auto)]
+
 ghost use Rattle.std.specs.Prelude.{◌≡◌, cond};
 ghost use Rattle.model.specs.Order.{bits, mode_in_force, checked, call_of, decode};
 ghost use Rattle.decode.specs.Order.{order, access_of, refusal_in};

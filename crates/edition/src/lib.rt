@@ -1,4 +1,6 @@
 // Tables of the old edition, which has five states and no mode: three lent tables converted into three others, to the new edition and back.
+#![tactic(auto)]
+
 ghost use Rattle.std.specs.Prelude.{◌≡◌, map, length};
 ghost use Rattle.letters.specs.Letters.{converted, byte_from};
 ghost use Rattle.edition.specs.Convert.{tables, states_refusal, conversion, convert};

@@ -1,4 +1,6 @@
 // Where a line's word stands, and the view of that word.
+#![tactic(auto)]
+
 ghost use Rattle.std.specs.Prelude.{◌≡◌, [], ◌∷◌, ◌<◌, get_or, length};
 ghost use Rattle.shape.specs.Shape.{entry_of};
 ghost use Rattle.model.specs.Below.{lowest};

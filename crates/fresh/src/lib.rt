@@ -1,4 +1,6 @@
 // Zeros in a lent table.
+#![tactic(auto)]
+
 ghost use Rattle.std.specs.Prelude.{◌≡◌, length, replicate};
 
 pub fn clear_bytes(table: &mut [u8])

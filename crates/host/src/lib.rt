@@ -1,4 +1,6 @@
 // The calls of a C host on bytes, as definitions, with what is proved of any list of them; and what a call with a record puts and counts.
+#![tactic(auto)]
+
 ghost use Rattle.std.specs.Prelude.{◌≡◌, length};
 ghost use Rattle.host.specs.Host.{refusal_put};
 ghost use Rattle.host.specs.Totals.{counts_in};

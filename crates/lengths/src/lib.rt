@@ -1,4 +1,6 @@
 // Refusals 2, 3 and 12 of what a host lends: the shape, and the lengths of the slices in bytes.
+#![tactic(auto)]
+
 ghost use Rattle.std.specs.Prelude.{◌≡◌, true};
 ghost use Rattle.shape.specs.Shape.{in_range};
 ghost use Rattle.lengths.specs.Lengths.{tables_fit, bytes_fit, refusal_by};

@@ -1,4 +1,6 @@
 // The five letters of the old edition, their bytes, and what becomes of a state byte on the way to the new edition and on the way back.
+#![tactic(auto)]
+
 ghost use Rattle.std.specs.Prelude.{◌≡◌};
 ghost use Rattle.letters.specs.Letters.{letter_of, letter_code, in_back, to_new, without_mode, lettered, to_old, converted, is_no_state, is_in_through, byte_from};
 
@@ -6,7 +8,7 @@ use protocol::state;
 use protocol::state::{Byte, Mode, State};
 
 // The state of an entry in the old edition, which has no mode.
-#[derive(Drop)]
+#[derive(Clone, Copy)]
 pub enum Letter {
     Invalid,
     Shared,
@@ -16,14 +18,14 @@ pub enum Letter {
 }
 
 // A byte of an old state table: one of the five letters, or none.
-#[derive(Drop)]
+#[derive(Clone, Copy)]
 pub enum OldByte {
     Known(Letter),
     Unknown,
 }
 
 // From the old edition to the new one, or from the new one back to the old.
-#[derive(Drop)]
+#[derive(Clone, Copy)]
 pub enum Way {
     ToNew,
     ToOld,
@@ -31,7 +33,7 @@ pub enum Way {
 
 // What becomes of a state byte: the byte of the other edition; or it is no state of its own edition; or it is a state in write through,
 // which the old edition does not have.
-#[derive(Drop)]
+#[derive(Clone, Copy)]
 pub enum Converted {
     To(u8),
     NoState,

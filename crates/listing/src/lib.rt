@@ -1,10 +1,12 @@
 // The published tables, written to standard output row by row: as text, in columns under a heading for each table; or comma separated, under one
 // line of names, with a cell left empty where a table does not have it.
+#![tactic(auto)]
+
 use protocol::state;
 use protocol::state::{Byte, Mode, State};
 use rows::Row;
 
-#[derive(Drop)]
+#[derive(Clone, Copy)]
 pub enum Form {
     Text,
     Comma,

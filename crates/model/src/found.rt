@@ -1,7 +1,7 @@
 // Where a line's word stands.
 
 // The number of the refusal, the lowest-numbered port that holds the line, or main memory.
-#[derive(Drop)]
+#[derive(Clone, Copy)]
 pub enum Found {
     Refused(u64),
     Holder(usize),

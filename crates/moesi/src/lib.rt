@@ -3,6 +3,8 @@
 // All that is asked of the caller is that the slices have the lengths that it says and share no byte with one another.
 // Each contract equates what a call returns and leaves with a definition. Those of step, fresh and audit say besides that what is lent is
 // bytes (`OfBytes`): the theorems over calls, in crates/host/specs, start from that.
+#![tactic(auto)]
+
 ghost use Rattle.std.specs.Prelude.{◌≡◌, []};
 ghost use Rattle.words.specs.Bools.{bit};
 ghost use Rattle.shape.specs.Shape.{shape_of, unranged};

@@ -2,6 +2,8 @@
 // functions, and prints for each its place, the five numbers, the state bytes and the words of main memory; and, after each part, the audit and
 // where a line's word stands.
 // What it prints is kept in the file stdout.
+#![tactic(auto)]
+
 use model::found::Found;
 use shape::Shape;
 use shape::range::Range;

@@ -8,7 +8,7 @@ ghost use Rattle.ports.specs.Entry.{tag_in, word_in, entry_at, put_at};
 
 use shape::Shape;
 
-#[derive(Drop)]
+#[derive(Clone, Copy)]
 pub struct Entry {
     pub tag: u32,
     pub byte: u8,

@@ -7,7 +7,7 @@ use shape::{Place, Shape};
 
 // Line `number` of the shape. Port p's entry for it is the one at the place's index, and holds the line where it isn't I and has the
 // place's tag. An entry at this index with a tag below the limit has a home line below lines.
-#[derive(Drop)]
+#[derive(Clone, Copy)]
 pub struct Line {
     pub shape: Shape,
     pub number: usize,

@@ -13,7 +13,7 @@ use shape::{Place, Shape};
 use words::choose;
 
 // What the ports say of a line: that every entry is sound, the ports that hold the line, and those that own it. Bit p is port p's.
-#[derive(Drop)]
+#[derive(Clone, Copy)]
 pub struct Masks {
     pub sound: bool,
     pub holders: u64,
@@ -96,7 +96,7 @@ fn survey_ports(tags: &[u8], states: &[u8], words: &[u8], line: Line) -> Masks
 }
 
 // A line, what the ports say of it, and the refusal of an order that looks at their entries: 8 where one of them is unsound, else 0.
-#[derive(Drop)]
+#[derive(Clone, Copy)]
 pub struct Look {
     pub line: Line,
     pub said: Masks,

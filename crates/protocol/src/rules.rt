@@ -12,7 +12,7 @@ use words::choose;
 
 // What a port says to the other holders, or a device to all: nothing; become S in a mode; that, and take the new word; become I; become write-back S,
 // but an owner stays the owner, as O.
-#[derive(Drop)]
+#[derive(Clone, Copy)]
 pub enum Bus {
     Quiet,
     Share(Mode),
@@ -22,7 +22,7 @@ pub enum Bus {
 }
 
 // A rule of the own table: the port's next state, what goes over the bus, and whether memory gets the line's word.
-#[derive(Drop)]
+#[derive(Clone, Copy)]
 pub struct Rule {
     pub own: State,
     pub bus: Bus,
@@ -30,7 +30,7 @@ pub struct Rule {
 }
 
 // The same in numbers: the state's byte and the number of the bus command.
-#[derive(Drop)]
+#[derive(Clone, Copy)]
 pub struct Coded {
     pub own: u8,
     pub bus: u8,
@@ -39,7 +39,7 @@ pub struct Coded {
 
 // A row of the own table: two words with a nibble for each state byte that the port may see, byte 0's the lowest. The first has the
 // next state's byte, the second the number of the bus command, plus 8 where memory gets the word.
-#[derive(Drop)]
+#[derive(Clone, Copy)]
 pub struct Row(pub u64, pub u64);
 
 fn own_row(n: u8) -> Row

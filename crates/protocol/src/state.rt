@@ -3,14 +3,14 @@ ghost use Rattle.std.specs.Prelude.{◌≡◌};
 ghost use Rattle.protocol.specs.State.{code, state_of, state_row, or_invalid, is_state, valid, owner};
 
 // The mode of an access, and of an entry other than I.
-#[derive(Drop)]
+#[derive(Clone, Copy)]
 pub enum Mode {
     Through,
     Back,
 }
 
 // Modified, owned, exclusive, shared, invalid. O and M carry no mode: they are always write back.
-#[derive(Drop)]
+#[derive(Clone, Copy)]
 pub enum State {
     I,
     S(Mode),
@@ -20,7 +20,7 @@ pub enum State {
 }
 
 // A byte of the state table: one of the seven states, or no state.
-#[derive(Drop)]
+#[derive(Clone, Copy)]
 pub enum Byte {
     Of(State),
     No,

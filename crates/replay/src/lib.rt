@@ -1,4 +1,6 @@
 // A trace: four sizes, then all order words, then all operands, in one buffer of bytes. Its orders run on memory of zeros.
+#![tactic(auto)]
+
 ghost use Rattle.std.specs.Prelude.{◌≡◌, true, ◌+◌, ◌*◌, ◌<◌, ◌≤◌, ◌^◌, length};
 ghost use Rattle.std.proofs.lemmas.List.Edits.{sets};
 ghost use Rattle.shape.specs.Shape.{in_range, ranges_end};
@@ -16,7 +18,7 @@ pub const MAX_ORDERS: usize = 2048;
 pub const MAX_NUMBERS: usize = 5 * MAX_ORDERS;
 
 // What a trace yields besides its answers: its refusal, 0 if none; the shape and the number of orders that it says; the audit of the end.
-#[derive(Drop)]
+#[derive(Clone, Copy)]
 pub struct Played {
     pub refusal: u64,
     pub shape: Shape,

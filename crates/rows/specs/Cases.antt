@@ -107,15 +107,15 @@ case_number (flush s) = 217 + state_number s
 case_number (device_write dirty) = 224 + bit dirty
 case_number device_read = 226
 
-abbrev pub field_own : ℕ → Case
-field_own k = own (outcome_in_turn (k / 56)) (mode_at (k / 28 % 2)) (eqb (k / 14 % 2) 1) (eqb (k / 7 % 2) 1) (state_in_turn (k % 7))
+abbrev pub own_at : ℕ → Case
+own_at k = own (outcome_in_turn (k / 56)) (mode_at (k / 28 % 2)) (eqb (k / 14 % 2) 1) (eqb (k / 7 % 2) 1) (state_in_turn (k % 7))
 
 abbrev pub snoop_at : ℕ → Case
 snoop_at k = snoop (bus_at (k / 6)) (state_in_turn (k % 6 + 1))
 
 unfoldable pub case_at : ℕ → Case
 case_at k =
-    cond (ltb k 168) (field_own k)
+    cond (ltb k 168) (own_at k)
     (cond (ltb k 210) (snoop_at (k - 168))
     (cond (ltb k 217) (take_over (state_in_turn (k - 210)))
     (cond (ltb k 224) (flush (state_in_turn (k - 217)))

@@ -1,4 +1,6 @@
 // The shape of a model, with the limits, sizes and places that follow from it, its ranges, and the refusals of what is lent.
+#![tactic(auto)]
+
 pub mod range;
 
 ghost use Rattle.std.specs.Prelude.{◌≡◌, true, ◌<◌, ◌≤◌, ◌+◌, ◌-◌, ◌/◌, ◌%◌, ◌^◌};
@@ -9,7 +11,7 @@ use range::Range;
 
 // How many ports there are, how many sets each port's direct-mapped cache has, and how many lines main memory has; the lines on which every
 // access runs write back, and those on which it runs write through, if they are not scratch. (Document 01's word shape.)
-#[derive(Drop)]
+#[derive(Clone, Copy)]
 pub struct Shape {
     pub ports: usize,
     pub sets: usize,
@@ -19,7 +21,7 @@ pub struct Shape {
 }
 
 // Main memory and the three tables in bytes: eight for a word, four for a tag, one for a state.
-#[derive(Drop)]
+#[derive(Clone, Copy)]
 pub struct Sizes {
     pub memory: usize,
     pub tags: usize,
@@ -29,7 +31,7 @@ pub struct Sizes {
 
 // Where a line lies: its index and tag, and the number of lines with that index. An entry at the index has a home line below lines
 // exactly where its tag is below this limit.
-#[derive(Drop)]
+#[derive(Clone, Copy)]
 pub struct Place {
     pub index: usize,
     pub tag: u32,
@@ -37,7 +39,7 @@ pub struct Place {
 }
 
 // The same in one width.
-#[derive(Drop)]
+#[derive(Clone, Copy)]
 struct Split {
     index: usize,
     tag: usize,

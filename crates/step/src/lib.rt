@@ -1,4 +1,6 @@
 // One order on main memory and tables in bytes of the right lengths.
+#![tactic(auto)]
+
 ghost use Rattle.std.specs.Prelude.{◌≡◌};
 ghost use Rattle.model.specs.Order.{There};
 ghost use Rattle.model.specs.Step.{result, perform, step};

@@ -1,4 +1,6 @@
 // The totals of a trace: its orders run from fresh on memory of zeros, and each is counted in a record; and rows of totals, added.
+#![tactic(auto)]
+
 ghost use Rattle.std.specs.Prelude.{◌≡◌, true, ℕ, ◌+◌, ◌*◌, ◌≤◌, get_or, length};
 ghost use Rattle.shape.specs.Shape.{in_range, ranges_end};
 ghost use Rattle.decode.specs.Order.{order};

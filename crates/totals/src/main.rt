@@ -1,6 +1,8 @@
 // Reads traces, one after another, from standard input, and prints a row of totals for each: its number from 1, the accepted orders of each
 // kind, refused orders, memory reads, memory writes, and swaps that succeeded. The last row, number 0, is their sum. A refused trace prints
 // its refusal and ends the reading. What it prints for the traces in the file stdin is kept in the file stdout.
+#![tactic(auto)]
+
 ghost use Rattle.std.specs.Prelude.{◌≡◌, ◌≤◌, length};
 ghost use Rattle.counters.specs.Totals.{zeros, record_length, totals_in};
 

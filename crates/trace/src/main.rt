@@ -1,5 +1,7 @@
 // Runs a trace from standard input, and prints its sizes, each order's place and five numbers, and the audit of the end state; or the
 // refusal of the trace alone. What it prints for the trace in the file stdin is kept in the file stdout.
+#![tactic(auto)]
+
 ghost use Rattle.std.specs.Prelude.{◌<◌, ◌≤◌};
 
 use replay::Played;

@@ -5,7 +5,7 @@ ghost use Rattle.words.specs.Access.{effect_at, is_write, is_swap, mask_of, oper
 use crate::{choose, word};
 
 // A write's mask and operand; a compare-and-swap's mask, operand and compare value.
-#[derive(Drop)]
+#[derive(Clone, Copy)]
 pub enum Access {
     Read,
     Write(u8, u64),
@@ -14,7 +14,7 @@ pub enum Access {
 
 // What an access comes to once the word is known: a read, or a swap that fails; a write, or a swap that succeeds, which changes the word; or
 // one that leaves the word as it was (a silent store).
-#[derive(Drop)]
+#[derive(Clone, Copy)]
 pub enum Outcome {
     Reads,
     Writes,
@@ -22,7 +22,7 @@ pub enum Outcome {
 }
 
 // What an access does at a word: its outcome, the line's word afterwards, and the answer's value and swapped mark.
-#[derive(Drop)]
+#[derive(Clone, Copy)]
 pub struct Effect {
     pub outcome: Outcome,
     pub word: u64,
