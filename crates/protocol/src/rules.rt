@@ -42,6 +42,7 @@ pub struct Coded {
 #[derive(Clone, Copy)]
 pub struct Row(pub u64, pub u64);
 
+#[tactic(auto, unfolding(crate::specs::Coded::own_row_at, crate::specs::Coded::own_row, crate::specs::Coded::packed, crate::specs::Coded::pack, crate::specs::Coded::act_number, crate::specs::Coded::outcome_at, crate::specs::Coded::mode_at, crate::specs::Coded::bus_number, crate::specs::Rules::rule, crate::specs::State::code))]
 fn own_row(n: u8) -> Row
     requires { n < 16 }
     ensures { result ≡ own_row_at n }
@@ -67,6 +68,7 @@ fn own_row(n: u8) -> Row
 }
 
 // The snoop table: for each bus command a row with the byte that each state byte becomes.
+#[tactic(auto, unfolding(crate::specs::Coded::snoop_row, crate::specs::Coded::packed, crate::specs::Coded::pack, crate::specs::Coded::bus_at, crate::specs::Rules::snooped, crate::specs::State::code))]
 pub fn snoop_row(bus: u8) -> u64
     requires { bus < 7 }
     ensures { result ≡ snoop_row bus }
@@ -83,6 +85,7 @@ pub fn snoop_row(bus: u8) -> u64
 }
 
 // Nibble s of a row.
+#[tactic(auto, unfolding(crate::specs::Coded::nibble_at))]
 pub fn nibble(row: u64, s: u8) -> u8
     ensures { (result ≡ nibble_at row (s % 16)) × (result < 16) }
 {
@@ -149,6 +152,7 @@ pub fn own_rule(k: Outcome, m: Mode, shared: bool, dirty: bool, s: u8) -> Coded
 }
 
 // The byte that a holder's byte s becomes at a bus command.
+#[tactic(auto, using(crate::proofs::Rows::snooped_is))]
 pub fn snooped_byte(bus: u8, s: u8) -> u8
     requires { (bus < 7) × (is_state (state_of s) ≡ true) }
     ensures { result ≡ code (snooped (bus_at bus) (or_invalid (state_of s))) }
@@ -157,6 +161,7 @@ pub fn snooped_byte(bus: u8, s: u8) -> u8
 }
 
 // The number of the command to become I, for a device, which has no row in the own table.
+#[tactic(auto, unfolding(crate::specs::Coded::bus_at))]
 pub fn invalidate() -> u8
     ensures { (bus_at result ≡ Bus.Invalidate) × (result < 7) }
 {
@@ -164,6 +169,7 @@ pub fn invalidate() -> u8
 }
 
 // The command hands the new word to the holders.
+#[tactic(auto, using(crate::proofs::Rows::updates_is))]
 pub fn hands_word(bus: u8) -> bool
     ensures { result ≡ updates (bus_at bus) }
 {

@@ -27,6 +27,7 @@ pub enum Byte {
 }
 
 // The one place that tells the state bytes apart, with the row of bits after it.
+#[tactic(auto, unfolding(crate::specs::State::state_of))]
 pub fn byte_state(b: u8) -> Byte
     ensures { result ≡ state_of b }
 {
@@ -43,6 +44,7 @@ pub fn byte_state(b: u8) -> Byte
 }
 
 // The byte of a state.
+#[tactic(auto, unfolding(crate::specs::State::code))]
 pub fn state_byte(s: State) -> u8
     ensures { result ≡ code s }
 {
@@ -63,6 +65,7 @@ pub fn state_byte(s: State) -> u8
 
 // What the match says of the bytes below 16, as one row of bits: bit b where byte b isn't I, bit 16 + b where it is O or M, bit 32 + b where
 // it is no state. (From 13 on no byte is one.)
+#[tactic(auto, using(crate::proofs::States::state_row_is))]
 pub fn state_row() -> u64
     ensures { result ≡ state_row }
 {

@@ -96,6 +96,7 @@ impl Shape {
     }
 
     // Ports, sets and lines are within their limits.
+    #[tactic(auto, unfolding(crate::specs::Shape::in_range))]
     pub fn is_in_range(self) -> bool
         ensures { result ≡ in_range self }
     {
@@ -121,6 +122,7 @@ impl Shape {
         p * self.sets + index
     }
 
+
     pub fn sizes(self) -> Sizes
         requires { in_range self ≡ true }
         ensures { result ≡ sizes_of self }
@@ -135,6 +137,7 @@ impl Shape {
     }
 
     // The lengths of main memory and of the tables are those of the shape.
+    #[tactic(auto, unfolding(crate::specs::Shape::fits))]
     fn is_fitting(self, memory: usize, tags: usize, states: usize, data: usize) -> bool
         requires { in_range self ≡ true }
         ensures { result ≡ fits self memory tags states «data» }
@@ -161,6 +164,7 @@ impl Shape {
     }
 
     // Refusal 3, where the lengths do not fit; then 12, where a range ends beyond lines; else 0.
+    #[tactic(auto, unfolding(crate::specs::Shape::fit_refusal))]
     pub fn fit_refusal(self, fit: bool) -> u64
         ensures { result ≡ fit_refusal self fit }
     {
@@ -174,6 +178,7 @@ impl Shape {
     }
 
     // Refusal 2, 3 or 12 of a shape and the lengths of main memory and the tables, else 0.
+    #[tactic(auto, unfolding(crate::specs::Shape::refusal_of))]
     pub fn refusal(self, memory: usize, tags: usize, states: usize, data: usize) -> u64
         ensures { result ≡ refusal_of self memory tags states «data» }
     {

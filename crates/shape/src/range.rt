@@ -11,6 +11,7 @@ pub struct Range {
 
 impl Range {
     // Line a is in the range. No sum of the two numbers is made, for they are as wide as a sum would be.
+    #[tactic(auto, using(crate::proofs::Ranges::before_inside, crate::proofs::Ranges::from_inside))]
     pub fn has(self, a: usize) -> bool
         ensures { result ≡ inside self a }
     {
@@ -21,6 +22,7 @@ impl Range {
     }
 
     // The range is empty, or all its lines are below n.
+    #[tactic(auto, using(crate::proofs::Ranges::starts_beyond, crate::proofs::Ranges::ends_within), unfolding(crate::specs::Range::ends_by))]
     pub fn ends_by(self, n: usize) -> bool
         ensures { result ≡ ends_by self n }
     {
