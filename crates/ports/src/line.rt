@@ -14,6 +14,7 @@ pub struct Line {
     pub place: Place,
 }
 
+#[tactic(auto, unfolding(crate::specs::Line::line_of))]
 pub fn line_of(shape: Shape, a: usize) -> Line
     requires { (in_range shape ≡ true) × (a < shape.lines) }
     ensures { result ≡ line_of shape a }

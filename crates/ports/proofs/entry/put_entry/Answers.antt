@@ -1,0 +1,9 @@
+-- An entry put, table by table. Assumes nothing.
+use Rattle.std.proofs.Common.{arith, refl}
+use Rattle.ports.proofs.Places.{entry_put}
+use Rattle.ports.proofs.entry.put_entry.Goals as goal
+
+pub returns : goal.returns
+returns c =
+    entry_put c.requires.filled c.requires.k_bound c.args.e (omega arith) (omega arith) c.write_four.ensures refl
+    c.put_word.ensures
