@@ -20,6 +20,7 @@ pub struct Command {
     pub hands: bool,
 }
 
+#[tactic(auto, unfolding(crate::specs::Bus::command_of))]
 fn command_of(bus: u8) -> Command
     requires { bus < 7 }
     ensures { result ≡ command_of bus }
@@ -32,6 +33,7 @@ fn command_of(bus: u8) -> Command
 
 // A holder's answer, from its own part of the tables, at the line's index there; w is the line's new word. No tag is read or changed: who is
 // asked is said by a mask.
+#[tactic(auto, unfolding(crate::specs::Bus::states_answered, crate::specs::Bus::words_answered))]
 fn answer(tags: &mut [u8], states: &mut [u8], words: &mut [u8], index: usize, c: Command, w: u64)
     requires { Room tags.old states.old words.old index }
     ensures tags_unchanged { tags.new ≡ tags.old }

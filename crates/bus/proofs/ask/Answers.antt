@@ -1,0 +1,6 @@
+-- The command is sent to all of the mask; or there is nobody to hear it, or nothing to say. Assumes nothing.
+use Rattle.bus.proofs.Answers.{unasked}
+use Rattle.bus.proofs.ask.Goals as goal
+
+pub returns-else-asked-bus : goal.returns-else-asked-bus
+returns-else-asked-bus c = search unasked
