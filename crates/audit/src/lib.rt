@@ -54,6 +54,7 @@ fn held_at(shape: Shape, tags: &[u8], states: &[u8], words: &[u8], k: usize) -> 
 }
 
 // The classes n and m of two holders of one line are compatible: of one mode, neither E or M, and not both O or M.
+#[tactic(auto, unfolding(crate::specs::Entries::compatible))]
 fn compatible(n: u8, m: u8) -> bool
     ensures { result ≡ compatible n m }
 {
@@ -64,6 +65,7 @@ fn compatible(n: u8, m: u8) -> bool
 
 // Entry e, which isn't I, goes with the entry f of another port that has its tag: f is I (or no state, which fails at its own port); or
 // they have one word and their classes are compatible.
+#[tactic(auto, unfolding(crate::specs::Entries::goes_with))]
 fn goes_with(e: Held, f: Held) -> bool
     ensures { result ≡ goes_with e f }
 {
