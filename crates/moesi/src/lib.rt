@@ -1,5 +1,5 @@
-// The C interface: step, step with totals, fresh, audit and the conversion of old tables on numbers and byte slices, as include/moesi.h
-// declares them. Each returns its refusal, 0 if none.
+// The calls of the C interface: step, step with totals, fresh, audit and the conversion of old tables on numbers and byte slices, as
+// include/moesi.h declares them; the crate moesi_c exports them. Each returns its refusal, 0 if none.
 // All that is asked of the caller is that the slices have the lengths that it says and share no byte with one another.
 // Each contract equates what a call returns and leaves with a definition. Those of step, fresh and audit say besides that what is lent is
 // bytes (`OfBytes`): the theorems over calls, in crates/host/specs, start from that.
@@ -22,8 +22,7 @@ use shape::Shape;
 use shape::range::Range;
 
 // One order: its five numbers go to answer, those of a refused order too. An answer of another length than 40 bytes is left alone.
-#[unsafe(no_mangle)]
-pub extern "C" fn moesi_step(
+pub fn moesi_step(
     ports: usize,
     sets: usize,
     lines: usize,
@@ -79,8 +78,7 @@ pub extern "C" fn moesi_step(
 
 // One order with a record of totals, which is brought up to date. Refusal 9 comes first of all, where the record has its length and a total
 // has no room; a record of another length is refused and left alone.
-#[unsafe(no_mangle)]
-pub extern "C" fn moesi_step_totals(
+pub fn moesi_step_totals(
     ports: usize,
     sets: usize,
     lines: usize,
@@ -155,8 +153,7 @@ pub extern "C" fn moesi_step_totals(
 }
 
 // A fresh model: zeros in the three tables.
-#[unsafe(no_mangle)]
-pub extern "C" fn moesi_fresh(
+pub fn moesi_fresh(
     ports: usize,
     sets: usize,
     lines: usize,
@@ -210,8 +207,7 @@ fn yes_or_no(b: bool) -> u8
 }
 
 // The audit: 1 for yes goes to verdict, else 0; a refused audit says no.
-#[unsafe(no_mangle)]
-pub extern "C" fn moesi_audit(
+pub fn moesi_audit(
     ports: usize,
     sets: usize,
     lines: usize,
@@ -264,8 +260,7 @@ pub extern "C" fn moesi_audit(
 }
 
 // Tables of this edition, out of tables of the old one.
-#[unsafe(no_mangle)]
-pub extern "C" fn moesi_from_old(
+pub fn moesi_from_old(
     ports: usize,
     sets: usize,
     lines: usize,
@@ -294,8 +289,7 @@ pub extern "C" fn moesi_from_old(
 }
 
 // Tables of the old edition, out of tables of this one.
-#[unsafe(no_mangle)]
-pub extern "C" fn moesi_to_old(
+pub fn moesi_to_old(
     ports: usize,
     sets: usize,
     lines: usize,
