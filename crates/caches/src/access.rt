@@ -1,6 +1,6 @@
 // A read, a write or a swap by a port: decided, and then carried out.
 ghost use Rattle.std.specs.Prelude.{◌≡◌, true, ◌<◌};
-ghost use Rattle.model.specs.Step.{result, accessed};
+ghost use Rattle.model.specs.Step.{result as step_result, accessed};
 ghost use Rattle.ports.specs.Bytes.{bytes, model_in, tables_in, Fitting};
 ghost use Rattle.ports.specs.Line.{Placed};
 ghost use Rattle.ports.specs.Masks.{AllStates, masks_of};
@@ -30,10 +30,10 @@ fn carry_out(
     requires i_lt_ports { i < line.shape.ports }
     requires all_states { AllStates line.shape line.number states.old }
     requires founded { Founded line.shape (tables_in line.shape tags.old states.old words.old) line.number d }
-    ensures* { λ r. ⌜ model_in line.shape (bytes memory.new tags.new states.new words.new)
+    ensures { model_in line.shape (bytes memory.new tags.new states.new words.new)
         ≡ carried line.shape
         (model_in line.shape (bytes memory.old tags.old states.old words.old))
-        i line.number d ⌝ }
+        i line.number d }
 {
     let shape = line.shape;
     let e = d.entry;
@@ -60,10 +60,10 @@ pub fn access_line(
     requires placed { Placed line }
     requires i_lt_ports { i < line.shape.ports }
     requires said_value { (said ≡ masks_of line.shape (tables_in line.shape tags.old states.old words.old) line.number) × (said.sound ≡ true) }
-    ensures* { λ r. ⌜ result r (model_in line.shape (bytes memory.new tags.new states.new words.new))
+    ensures { step_result result (model_in line.shape (bytes memory.new tags.new states.new words.new))
         ≡ accessed line.shape
         (model_in line.shape (bytes memory.old tags.old states.old words.old))
-        i line.number acc m ⌝ }
+        i line.number acc m }
 {
     let d = decision::decide(memory, tags, states, words, line, i, said, acc, m);
     carry_out(memory, tags, states, words, line, i, d);

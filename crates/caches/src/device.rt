@@ -1,6 +1,6 @@
 // A device: it reads main memory behind the caches, and the holders of a line hear when it writes.
 ghost use Rattle.std.specs.Prelude.{◌≡◌, true, ◌+◌, ◌*◌, ◌≤◌, length};
-ghost use Rattle.model.specs.Step.{result, accepted, device_written};
+ghost use Rattle.model.specs.Step.{result as step_result, accepted, device_written};
 ghost use Rattle.ports.specs.Bytes.{bytes, model_in, tables_in, Fitting};
 ghost use Rattle.ports.specs.Entry.{word_in};
 ghost use Rattle.ports.specs.Line.{Placed};
@@ -18,7 +18,7 @@ use words::word;
 // A device read of line a.
 pub fn device_read(memory: &[u8], a: usize) -> Answer
     requires { 8 * a + 8 ≤ length memory.now }
-    ensures* { λ r. ⌜ r ≡ accepted (word_in memory.now a) 0 1 0 ⌝ }
+    ensures { result ≡ accepted (word_in memory.now a) 0 1 0 }
 {
     answers::accept(entry::word_at(memory, a), false, true, false, false)
 }
@@ -37,10 +37,10 @@ pub fn device_write(
     requires fitting { Fitting line.shape (bytes memory.old tags.old states.old words.old) }
     requires placed { Placed line }
     requires said_value { (said ≡ masks_of line.shape (tables_in line.shape tags.old states.old words.old) line.number) × (said.sound ≡ true) }
-    ensures* { λ r. ⌜ result r (model_in line.shape (bytes memory.new tags.new states.new words.new))
+    ensures { step_result result (model_in line.shape (bytes memory.new tags.new states.new words.new))
         ≡ device_written line.shape
         (model_in line.shape (bytes memory.old tags.old states.old words.old))
-        line.number mask x ⌝ }
+        line.number mask x }
 {
     let dirty = said.owners != 0;
     let supplied = supply::supplied_word(memory, tags, states, words, line, said.owners);

@@ -2,7 +2,7 @@
 ghost use Rattle.std.specs.Prelude.{◌≡◌, true, cond, ◌<◌, set, length};
 ghost use Rattle.protocol.specs.declared.state.State.TheVariants.{I};
 ghost use Rattle.protocol.specs.State.{code};
-ghost use Rattle.model.specs.Step.{result, flushed};
+ghost use Rattle.model.specs.Step.{result as step_result, flushed};
 ghost use Rattle.ports.specs.Bytes.{bytes, model_in, tables_in, Fitting};
 ghost use Rattle.ports.specs.Line.{Placed};
 ghost use Rattle.ports.specs.Masks.{masks_of};
@@ -18,7 +18,7 @@ use protocol::state::State;
 // An entry that may become I.
 fn empty_if(states: &mut [u8], on: bool, k: usize)
     requires { k < length states.old }
-    ensures* { λ r. ⌜ states.new ≡ cond on (set states.old k (code I)) states.old ⌝ }
+    ensures { states.new ≡ cond on (set states.old k (code I)) states.old }
 {
     if on {
         states[k] = state::state_byte(State::I);
@@ -39,10 +39,10 @@ pub fn flush_line(
     requires placed { Placed line }
     requires i_lt_ports { i < line.shape.ports }
     requires said_value { (said ≡ masks_of line.shape (tables_in line.shape tags.now states.old words.now) line.number) × (said.sound ≡ true) }
-    ensures* { λ r. ⌜ result r (model_in line.shape (bytes memory.new tags.now states.new words.now))
+    ensures { step_result result (model_in line.shape (bytes memory.new tags.now states.new words.now))
         ≡ flushed line.shape
         (model_in line.shape (bytes memory.old tags.now states.old words.now))
-        i line.number ⌝ }
+        i line.number }
 {
     let held = (said.holders >> i) % 2 == 1;
     let stores = (said.owners >> i) % 2 == 1;

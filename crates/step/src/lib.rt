@@ -3,7 +3,7 @@
 
 ghost use Rattle.std.specs.Prelude.{◌≡◌};
 ghost use Rattle.model.specs.Order.{There};
-ghost use Rattle.model.specs.Step.{result, perform, step};
+ghost use Rattle.model.specs.Step.{result as step_result, perform, step};
 ghost use Rattle.decode.specs.Order.{order};
 ghost use Rattle.ports.specs.Bytes.{bytes, model_in, Fitting};
 
@@ -26,9 +26,9 @@ fn perform_call(
 ) -> Answer
     requires fitting { Fitting shape (bytes memory.old tags.old states.old words.old) }
     requires there { There shape call a }
-    ensures* { λ r. ⌜ result r (model_in shape (bytes memory.new tags.new states.new words.new))
+    ensures { step_result result (model_in shape (bytes memory.new tags.new states.new words.new))
         ≡ perform shape (model_in shape (bytes memory.old tags.old states.old words.old))
-        (Decoded.Asked call a) ⌝ }
+        (Decoded.Asked call a) }
 {
     match call {
         Call::ByPort(acc, m, i) => {
@@ -67,9 +67,9 @@ pub fn step_order(
     x: u64,
 ) -> Answer
     requires { Fitting shape (bytes memory.old tags.old states.old words.old) }
-    ensures* { λ r. ⌜ result r (model_in shape (bytes memory.new tags.new states.new words.new))
+    ensures { step_result result (model_in shape (bytes memory.new tags.new states.new words.new))
         ≡ step shape (order w x)
-        (model_in shape (bytes memory.old tags.old states.old words.old)) ⌝ }
+        (model_in shape (bytes memory.old tags.old states.old words.old)) }
 {
     let d = decode::decode_order(shape, w, x);
     let Decoded::Asked(call, a) = d else {

@@ -1,0 +1,39 @@
+-- The decision, call by call. Assumes nothing.
+use Rattle.std.proofs.Common.{◌/◌, ◌%◌, ◌^◌, nat_eq, arith}
+use Rattle.ports.proofs.Places.{few, index_below, sets_small}
+use Rattle.ports.proofs.Masks.{bit_away}
+use Rattle.ports.proofs.Surveys.{masks_holders, masks_owners, masks_hit, masks_dirty}
+use Rattle.decision.proofs.Decisions.{chosen_state, entry_state, decide_done}
+use Rattle.decision.proofs.decide.Goals as goal
+
+pub entry_number-at-requires-clause-p_lt_ports : goal.entry_number-at-requires-clause-p_lt_ports
+entry_number-at-requires-clause-p_lt_ports c = (c.requires.i_lt_ports, omega (arith, index_below c.requires.placed))
+
+pub overflow_shr-own : goal.overflow_shr-own
+overflow_shr-own c = omega (arith, few c.requires.placed)
+
+pub overflow_shl-others : goal.overflow_shl-others
+overflow_shl-others c = omega (arith, few c.requires.placed)
+
+pub find_word-found-requires-clause-owners_value : goal.find_word-found-requires-clause-owners_value
+find_word-found-requires-clause-owners_value c = masks_owners _ _ _ c.requires.said_value.0
+
+-- The byte chosen, the own entry's or that of I, is the code of a state.
+pub own_rule-r-requires : goal.own_rule-r-requires
+own_rule-r-requires c =
+    let r = c.requires in
+    chosen_state (nat_eq (c.args.said.holders / 2 ^ c.args.i % 2) 1) _ c.state_byte.ensures c.choose_byte-byte.ensures
+    (entry_state r.placed _ _ _ _ r.i_lt_ports c.entry_number-at.ensures.0 c.entry_at-e.ensures r.said_value.0 r.said_value.1)
+
+pub home_of-home-requires : goal.home_of-home-requires
+home_of-home-requires c = sets_small c.requires.placed
+
+pub returns : goal.returns
+returns c =
+    let r = c.requires in
+    let p = r.said_value.0 in
+    decide_done r.placed _ _ _ _ r.i_lt_ports c.entry_number-at.ensures.0 c.entry_at-e.ensures
+    c.byte_state.ensures c.is_owner.ensures _ _ _ (masks_hit _ _ _ p _ r.i_lt_ports)
+    (bit_away _ _ _ (masks_holders _ _ _ p) r.i_lt_ports (few r.placed)).1 (masks_dirty _ _ _ p)
+    c.find_word-found.ensures c.effect_at-effect.ensures c.state_byte.ensures c.choose_byte-byte.ensures c.own_rule-r.ensures
+    c.home_of-home.ensures c.accept.ensures
