@@ -1,0 +1,15 @@
+-- The answers, the own entry, and at most two stores. Assumes nothing.
+use Rattle.std.proofs.Common.{arith}
+use Rattle.ports.specs.Bytes.{bytes}
+use Rattle.ports.proofs.Places.{index_below}
+use Rattle.caches.proofs.Carried.{carry_done}
+use Rattle.caches.proofs.access.carry_out.Goals as goal
+
+pub entry_number-at-requires-clause-p_lt_ports : goal.entry_number-at-requires-clause-p_lt_ports
+entry_number-at-requires-clause-p_lt_ports c = (c.requires.i_lt_ports, omega (arith, index_below c.requires.placed))
+
+pub returns : goal.returns
+returns c =
+    let x = c.args in
+    carry_done c.requires.placed (bytes x.memory.now x.tags.now x.states.now x.words.now) _ x.i x.d
+    c.ask.ensures c.entry_number-at.ensures.0 c.put_entry.ensures c.store_if.ensures c.store_if-2.ensures
