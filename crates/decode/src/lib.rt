@@ -26,6 +26,7 @@ fn mode_of(back: bool) -> Mode
 
 // The mode in which an order of word w runs on line a: write back in the scratch range, which is looked up first, write through in the device
 // range, and elsewhere what bit 3 says. Nothing else reads that bit.
+#[tactic(auto, using(crate::proofs::Modes::as_said, crate::proofs::Modes::in_force))]
 fn mode_in_force(shape: Shape, w: u64, a: usize) -> Mode
     ensures { result ≡ mode_in_force shape w a }
 {
@@ -37,6 +38,7 @@ fn mode_in_force(shape: Shape, w: u64, a: usize) -> Mode
 }
 
 // What the kinds 0 to 2 ask: read, write, and else compare-and-swap.
+#[tactic(auto, unfolding(crate::specs::Order::access_of))]
 fn access_of(kind: usize, mask: u8, compare: u64, x: u64) -> Access
     ensures { result ≡ access_of kind mask compare x }
 {
@@ -49,6 +51,7 @@ fn access_of(kind: usize, mask: u8, compare: u64, x: u64) -> Access
     Access::Swap(mask, x, compare)
 }
 
+#[tactic(auto, using(crate::proofs::Calls::call_access, crate::proofs::Calls::call_flush, crate::proofs::Calls::call_device_read, crate::proofs::Calls::call_device_write))]
 fn call_of(kind: usize, m: Mode, port: usize, mask: u8, compare: u64, x: u64) -> Call
     ensures { result ≡ call_of kind m port mask compare x }
 {
@@ -65,6 +68,7 @@ fn call_of(kind: usize, m: Mode, port: usize, mask: u8, compare: u64, x: u64) ->
 }
 
 // Refusals 4 to 7, in checking order, else the call and its line.
+#[tactic(auto, unfolding(model::specs::Order::checked))]
 fn checked_call(
     shape: Shape,
     kind: usize,
@@ -91,6 +95,7 @@ fn checked_call(
 }
 
 // The fields of the word: 0-2 kind, 3 mode, 4-7 port, 8-15 byte mask, 16-31 line, 32-63 compare value.
+#[tactic(auto, unfolding(model::specs::Order::decode))]
 pub fn decode_order(shape: Shape, w: u64, x: u64) -> Decoded
     ensures { result ≡ decode shape (order w x) }
 {

@@ -8,6 +8,7 @@ ghost use Rattle.lengths.specs.Lengths.{tables_fit, bytes_fit, refusal_by};
 use shape::Shape;
 
 // The lengths of the three tables in bytes are those of the shape.
+#[tactic(auto, unfolding(crate::specs::Lengths::tables_fit))]
 pub fn tables_fit(shape: Shape, tags: usize, states: usize, data: usize) -> bool
     requires { in_range shape ≡ true }
     ensures { result ≡ tables_fit shape tags states «data» }
@@ -17,6 +18,7 @@ pub fn tables_fit(shape: Shape, tags: usize, states: usize, data: usize) -> bool
 }
 
 // Main memory has its length too.
+#[tactic(auto, unfolding(crate::specs::Lengths::bytes_fit))]
 fn bytes_fit(shape: Shape, memory: usize, tags: usize, states: usize, data: usize) -> bool
     requires { in_range shape ≡ true }
     ensures { result ≡ bytes_fit shape memory tags states «data» }
@@ -26,6 +28,7 @@ fn bytes_fit(shape: Shape, memory: usize, tags: usize, states: usize, data: usiz
 }
 
 // Refusal 2, 3 or 12 of a shape and the lengths of the slices, else 0; out says that the slice written to has its length.
+#[tactic(auto, unfolding(crate::specs::Lengths::refusal_by))]
 pub fn refusal_by(
     shape: Shape,
     memory: usize,

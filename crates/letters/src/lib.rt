@@ -41,6 +41,7 @@ pub enum Converted {
 }
 
 // The one place that tells the old bytes apart.
+#[tactic(auto, unfolding(crate::specs::Letters::letter_of))]
 fn byte_letter(b: u8) -> OldByte
     ensures { result ≡ letter_of b }
 {
@@ -122,6 +123,7 @@ fn to_old(b: Byte) -> Converted
 }
 
 // What becomes of a state byte, by the way that it goes.
+#[tactic(auto, unfolding(crate::specs::Letters::converted))]
 pub fn convert_byte(way: Way, b: u8) -> Converted
     ensures { result ≡ converted way b }
 {
