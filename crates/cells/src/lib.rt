@@ -305,7 +305,7 @@ pub fn case_count() -> u8
 }
 
 // The row of the case at a number.
-#[tactic(auto, using(rows::proofs::Places::own_part, rows::proofs::Places::snoop_part, rows::proofs::Places::taken_part, rows::proofs::Places::flush_part, rows::proofs::Places::write_part, rows::proofs::Places::read_part))]
+#[tactic(auto, using(crate::proofs::Parts::parts))]
 pub fn row_at(k: u8) -> Row
     ensures { result ≡ row_of (case_at k) }
 {
