@@ -23,6 +23,7 @@ fn number(b: bool) -> u8
     if b { 1 } else { 0 }
 }
 
+#[tactic(auto, unfolding(rows::specs::Cases::outcome_in_turn))]
 fn outcome_at(n: u8) -> Outcome
     ensures { result ≡ outcome_in_turn n }
 {
@@ -45,6 +46,7 @@ fn outcome_number(k: Outcome) -> u8
     }
 }
 
+#[tactic(auto, unfolding(protocol::specs::Coded::mode_at))]
 fn mode_at(n: u8) -> Mode
     ensures { result ≡ mode_at n }
 {
@@ -61,6 +63,7 @@ fn mode_number(m: Mode) -> u8
 }
 
 // The seven states in turn.
+#[tactic(auto, unfolding(rows::specs::Cases::state_in_turn))]
 fn state_at(n: u8) -> State
     ensures { result ≡ state_in_turn n }
 {
@@ -76,6 +79,7 @@ fn state_at(n: u8) -> State
 }
 
 // Where the line's word comes from.
+#[tactic(auto, unfolding(rows::specs::Cells::source_of))]
 fn source_of(hit: bool, dirty: bool) -> u8
     ensures { result ≡ source_of hit dirty }
 {
@@ -134,6 +138,7 @@ fn is_through(s: State) -> bool
 }
 
 // The case of an access can arise.
+#[tactic(auto, unfolding(rows::specs::Cases::arises))]
 fn can_arise(shared: bool, dirty: bool, s: State) -> bool
     ensures { result ≡ arises shared dirty s }
 {
@@ -147,6 +152,7 @@ fn can_arise(shared: bool, dirty: bool, s: State) -> bool
 }
 
 // Tables that pass the audit have it.
+#[tactic(auto, unfolding(rows::specs::Cases::own_audited))]
 fn is_own_audited(shared: bool, dirty: bool, s: State) -> bool
     ensures { result ≡ own_audited shared dirty s }
 {
@@ -154,6 +160,7 @@ fn is_own_audited(shared: bool, dirty: bool, s: State) -> bool
 }
 
 // Tables that pass the audit have a holder in state s that hears the command of a number.
+#[tactic(auto, unfolding(protocol::specs::Coded::bus_at, rows::specs::Cases::snoop_audited))]
 fn is_snoop_audited(bus: u8, s: State) -> bool
     ensures { result ≡ snoop_audited (bus_at bus) s }
 {
@@ -228,6 +235,7 @@ fn snoop_row(bus: u8, s: State) -> Row
 }
 
 // The entry that a miss takes over.
+#[tactic(auto, unfolding(rows::specs::Cells::row_of, rows::specs::Cells::reads_in, rows::specs::Cells::writes_in, rows::specs::Cases::audited))]
 fn taken_row(s: State) -> Row
     ensures { result ≡ row_of (take_over s) }
 {
@@ -238,6 +246,7 @@ fn taken_row(s: State) -> Row
 }
 
 // A flush by a port.
+#[tactic(auto, unfolding(rows::specs::Cells::row_of, rows::specs::Cells::reads_in, rows::specs::Cells::writes_in, rows::specs::Cases::audited, protocol::specs::Rules::flush_rule))]
 fn flush_row(s: State) -> Row
     ensures { result ≡ row_of (flush s) }
 {
@@ -249,6 +258,7 @@ fn flush_row(s: State) -> Row
 }
 
 // A device write.
+#[tactic(auto, using(rows::proofs::Cells::bus_number_lem), unfolding(rows::specs::Cells::row_of, rows::specs::Cells::reads_in, rows::specs::Cells::writes_in, rows::specs::Cases::audited))]
 fn device_write_row(dirty: bool) -> Row
     ensures { result ≡ row_of (device_write dirty) }
 {
@@ -262,6 +272,7 @@ fn device_write_row(dirty: bool) -> Row
 }
 
 // A device read.
+#[tactic(auto, unfolding(rows::specs::Cells::row_of, rows::specs::Cells::reads_in, rows::specs::Cells::writes_in, rows::specs::Cases::audited))]
 fn device_read_row() -> Row
     ensures { result ≡ row_of device_read }
 {
@@ -294,6 +305,7 @@ pub fn case_count() -> u8
 }
 
 // The row of the case at a number.
+#[tactic(auto, using(crate::proofs::Parts::parts))]
 pub fn row_at(k: u8) -> Row
     ensures { result ≡ row_of (case_at k) }
 {
@@ -316,6 +328,7 @@ pub fn row_at(k: u8) -> Row
 }
 
 // The case at a number has a row: all but those of an access that can't arise.
+#[tactic(auto, using(rows::proofs::Places::own_part, rows::proofs::Places::printed_part), unfolding(rows::specs::Cases::printed))]
 pub fn is_printed(k: u8) -> bool
     ensures { result ≡ printed (case_at k) }
 {

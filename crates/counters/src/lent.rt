@@ -34,6 +34,7 @@ pub fn total_at(lent: &[u8], k: usize) -> u64
 }
 
 // A total that has no room.
+#[tactic(auto, unfolding(crate::specs::Totals::high))]
 fn is_high(n: u64) -> bool
     ensures { result ≡ high n }
 {
@@ -62,6 +63,7 @@ fn order_place(kind: usize, refusal: u64) -> usize
 }
 
 // The counters of an order that is counted at place k.
+#[tactic(auto, unfolding(crate::specs::Counters::counters_at))]
 fn counters_at(lent: &[u8], k: usize) -> Counters
     requires { (length lent.now ≡ record_length) × (k ≤ kinds) }
     ensures { result ≡ counters_at (totals_in lent.now) k }

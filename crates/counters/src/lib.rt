@@ -19,6 +19,7 @@ pub struct Counters {
 }
 
 // The counters with one answer added.
+#[tactic(auto, unfolding(crate::specs::Counters::counters_after))]
 fn added(c: Counters, a: Answer) -> Counters
     requires { Room c a }
     ensures { result ≡ counters_after c a }

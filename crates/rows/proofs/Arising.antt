@@ -12,7 +12,7 @@ use Rattle.words.specs.Bools.{implies}
 use Rattle.words.proofs.Bools.{Is, and_l, and_r, both, mp, imp, contra, not_both, not_is, by_bool, by_cond}
 use Rattle.protocol.specs.declared.state.Mode.{Mode}
 use Rattle.protocol.specs.declared.state.State.{State}
-use Rattle.protocol.specs.declared.state.State.TheVariants.{I, E, M}
+use Rattle.protocol.specs.declared.state.State.TheVariants.{I}
 use Rattle.words.specs.declared.access.Outcome.{Outcome}
 use Rattle.protocol.specs.declared.rules.Bus.{Bus}
 use Rattle.protocol.specs.State.{valid, owner, exclusive, mode_of, is_through}
@@ -32,7 +32,7 @@ use Rattle.model.specs.Audit.{audit}
 use Rattle.model.proofs.Below.{any_below_lem, none_below, below_none}
 use Rattle.model.proofs.Decoded.{Sound, decode-sound}
 use Rattle.model.proofs.Audited.{audit_facts, facts_good}
-use Rattle.rows.specs.Cases.{Case, own, snoop, arises, printed, own_audited, snoop_audited, audited}
+use Rattle.rows.specs.Cases.{Case, snoop, arises, printed, own_audited, snoop_audited, audited}
 use Rattle.rows.specs.Orders.{effect_here, heard_by, others, cases_of, rows_of, order_rows, every_row}
 use Rattle.rows.specs.Claims.{says_audited, RowsArePrinted, RowsAreAudited}
 use Rattle.rows.proofs.Cells.{sent_own, sent_device, audited-says}

@@ -38,7 +38,7 @@ use Rattle.model.proofs.Entries.{entry_inj, seen_tag, seen_here}
 use Rattle.model.proofs.Puts.{put_ext, put_id, own_last}
 use Rattle.model.proofs.Lent.{Lent, lent_facts}
 use Rattle.model.proofs.Decoded.{Sound, decode-sound}
-use Rattle.rows.specs.Cases.{Case, flush, device_write}
+use Rattle.rows.specs.Cases.{Case, device_write}
 use Rattle.rows.specs.Cells.{source_of, reads_in, writes_in, row_of}
 use Rattle.rows.specs.Orders.{sent, word_from, effect_here, access_case, cases_of, sum_over, heard_byte, heard_word}
 use Rattle.rows.specs.Orders.{access_leaves, flush_leaves, write_leaves, designed}

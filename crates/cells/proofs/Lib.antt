@@ -1,0 +1,2 @@
+-- What the attributes of this crate name.
+pub mod Parts
