@@ -8,6 +8,7 @@ ghost use Rattle.host.specs.Totals.{counts_in};
 use model::answer::Answer;
 
 // A refusal's five numbers, where the slice has its 40 bytes; one of another length is left alone.
+#[tactic(auto, using(crate::proofs::Totals::put_fits, crate::proofs::Totals::put_other))]
 pub fn put_refusal(out: &mut [u8], n: u64)
     ensures { out.new ≡ refusal_put n out.old }
 {
@@ -18,6 +19,7 @@ pub fn put_refusal(out: &mut [u8], n: u64)
 
 // What is counted of a call of step that returned n: its refusal, or, of an accepted order, the numbers that it wrote. The value is not
 // counted.
+#[tactic(auto, using(crate::proofs::Totals::counts_refused, crate::proofs::Totals::counts_accepted))]
 pub fn counts_in(n: u64, out: &[u8]) -> Answer
     requires { n ≡ 0 → length out.now ≡ 40 }
     ensures { result ≡ counts_in n out.now }
