@@ -13,6 +13,7 @@ use protocol::state;
 use shape::Shape;
 
 // Port p's entry for line a is sound: its byte is a state, and it is I or has a home line below lines.
+#[tactic(auto, using(crate::proofs::Links::index_below, crate::proofs::Holders::sound_is))]
 fn sound_at(shape: Shape, tags: &[u32], states: &[u8], a: usize, p: usize) -> bool
     requires ready { Ready shape tags.now states.now a }
     requires p_lt_ports { p < shape.ports }
@@ -25,6 +26,7 @@ fn sound_at(shape: Shape, tags: &[u32], states: &[u8], a: usize, p: usize) -> bo
 }
 
 // Port p holds line a.
+#[tactic(auto, using(crate::proofs::Links::index_below))]
 fn holds_at(shape: Shape, tags: &[u32], states: &[u8], a: usize, p: usize) -> bool
     requires ready { Ready shape tags.now states.now a }
     requires p_lt_ports { p < shape.ports }
@@ -68,6 +70,7 @@ fn first_holder(shape: Shape, tags: &[u32], states: &[u8], a: usize) -> Found
 }
 
 // Refusal 2, 3, 12, 6 or 8, in checking order, else the lowest-numbered holder of line a, else memory.
+#[tactic(auto, using(crate::proofs::Finds::find_misfit, crate::proofs::Finds::find_far, crate::proofs::Finds::find_unsound, crate::proofs::Finds::find_first))]
 pub fn find_line(
     shape: Shape,
     memory: &[u64],
