@@ -11,8 +11,6 @@ use Rattle.endian.proofs.Little.{length-numbers}
 use Rattle.ports.specs.Bytes.{bytes, model_in}
 use Rattle.shape.specs.declared.Shape.{Shape}
 use Rattle.shape.specs.Shape.{in_range, entries, ranges_end}
-use Rattle.protocol.specs.State.{code, state_of}
-use Rattle.model.specs.Below.{all_below}
 use Rattle.model.specs.Tables.{lent_refusal}
 use Rattle.model.specs.Audit.{audit}
 use Rattle.model.proofs.Lent.{facts_lent}
@@ -22,8 +20,8 @@ use Rattle.letters.specs.declared.Way.{Way}
 use Rattle.letters.specs.declared.Way.TheVariants.{ToNew}
 use Rattle.letters.specs.declared.Converted.{Converted}
 use Rattle.letters.specs.declared.Converted.TheVariants.{To}
-use Rattle.letters.specs.Letters.{letter_of, converted, byte_from}
-use Rattle.edition.specs.Convert.{Tables, tables, fit, conversion_refusal, moved, conversion, convert}
+use Rattle.letters.specs.Letters.{converted, byte_from}
+use Rattle.edition.specs.Convert.{Tables, fit, conversion_refusal, moved, conversion, convert}
 use Rattle.edition.specs.Rules.{keeps_rules}
 use Rattle.edition.specs.Claims.{ThereAndBack, old_in, AuditAgrees, KeptConverts, RefusedConvertsNothing}
 use Rattle.letters.specs.Claims.{Becomes, other_way}

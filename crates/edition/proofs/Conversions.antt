@@ -93,6 +93,9 @@ module _ (way : Way) (s : Shape) (t out : Tables) {b : Bool} (eb : b ≡ in_rang
       unfolding convert conversion_refusal moved
       tables-moved z ex ey ez = rw (← eb, not-false b r, ← eg, ← el, not-false (given && lent) f, ← e, eq-eqb n 0 z, ex, ey, ez)
 
+-- One law for each return of a call.
+pub ruleset call_returns = (shape_refused, length-refused, states_refused, tables-moved)
+
 module _ (way : Way) (s : Shape) (t out : Tables) where
   -- What an accepted call says, and leaves.
   pub record Accepted (left : Tables) : Type 0 where
