@@ -3,7 +3,8 @@
 #![tactic(auto)]
 
 use listing::Form;
+use std::io;
 
-fn main() {
-    listing::put_tables(Form::Comma);
+fn main(rt: HostRuntime) -> io::Result<()> {
+    listing::print_tables(&rt, Form::Comma)
 }
