@@ -7,31 +7,26 @@
 use model::found::Found;
 use shape::Shape;
 use shape::range::Range;
+use std::io::{Cursor, Result, Write};
 
-fn put(n: u64) {
-    io::print_decimal(1, n);
-    io::write_all(1, b" ");
+fn put<W: Write>(out: &mut W, n: u64) -> Result<()> {
+    write!(out, "{n} ")
 }
 
-fn put_states(states: &[u8]) {
-    io::write_all(1, b"|");
-    let mut k = 0;
-    while k < states.len() {
-        io::write_all(1, b" ");
-        io::print_decimal(1, wide(states[k]));
-        k += 1;
+fn put_states<W: Write>(out: &mut W, states: &[u8]) -> Result<()> {
+    out.write_all(b"|")?;
+    for b in states {
+        write!(out, " {b}")?;
     }
+    Ok(())
 }
 
-fn put_words(words: &[u64]) {
-    io::write_all(1, b" |");
-    let mut k = 0;
-    while k < words.len() {
-        io::write_all(1, b" ");
-        io::print_decimal(1, words[k]);
-        k += 1;
+fn put_words<W: Write>(out: &mut W, words: &[u64]) -> Result<()> {
+    out.write_all(b" |")?;
+    for w in words {
+        write!(out, " {w}")?;
     }
-    io::write_all(1, b"\n");
+    out.write_all(b"\n")
 }
 
 fn wide(b: u8) -> u64 {
@@ -51,7 +46,8 @@ fn two_tags(bytes: &[u8; 8]) -> [u32; 2] {
 }
 
 // One order: its place, the five numbers, the state bytes, main memory.
-fn show(
+fn show<W: Write>(
+    out: &mut W,
     s: Shape,
     memory: &mut [u8; 16],
     tags: &mut [u8; 8],
@@ -60,7 +56,7 @@ fn show(
     place: u64,
     w: u64,
     x: u64,
-) {
+) -> Result<()> {
     let mut answer = [0u8; 40];
     moesi::moesi_step(
         s.ports,
@@ -78,30 +74,32 @@ fn show(
         data,
         &mut answer,
     );
-    put(place);
-    put(endian::read_eight(&answer, 0));
-    put(endian::read_eight(&answer, 8));
-    put(endian::read_eight(&answer, 16));
-    put(endian::read_eight(&answer, 24));
-    put(endian::read_eight(&answer, 32));
-    put_states(states);
+    put(out, place)?;
+    put(out, endian::read_eight(&answer, 0))?;
+    put(out, endian::read_eight(&answer, 8))?;
+    put(out, endian::read_eight(&answer, 16))?;
+    put(out, endian::read_eight(&answer, 24))?;
+    put(out, endian::read_eight(&answer, 32))?;
+    put_states(out, states)?;
     let words = two_words(memory);
-    put_words(&words);
+    put_words(out, &words)
 }
 
 // A list of orders, each a word and then its operand.
-fn run(
+fn run<W: Write>(
+    out: &mut W,
     s: Shape,
     memory: &mut [u8; 16],
     tags: &mut [u8; 8],
     states: &mut [u8; 2],
     data: &mut [u8; 16],
     orders: &[u64],
-) {
+) -> Result<()> {
     let mut k = 0;
     let mut place: u64 = 1;
     while k + 1 < orders.len() {
         show(
+            out,
             s,
             memory,
             tags,
@@ -110,14 +108,21 @@ fn run(
             place,
             orders[k],
             orders[k + 1],
-        );
+        )?;
         k += 2;
         place = place % 1000 + 1;
     }
+    Ok(())
 }
 
 // The audit's refusal, and 1 for yes.
-fn audited(memory: &[u8; 16], tags: &[u8; 8], states: &[u8; 2], data: &[u8; 16]) {
+fn audited<W: Write>(
+    out: &mut W,
+    memory: &[u8; 16],
+    tags: &[u8; 8],
+    states: &[u8; 2],
+    data: &[u8; 16],
+) -> Result<()> {
     let mut verdict = [0u8; 1];
     let n = moesi::moesi_audit(
         2,
@@ -133,14 +138,21 @@ fn audited(memory: &[u8; 16], tags: &[u8; 8], states: &[u8; 2], data: &[u8; 16])
         data,
         &mut verdict,
     );
-    io::write_all(1, b"audit ");
-    put(n);
-    put(wide(verdict[0]));
-    io::write_all(1, b"\n");
+    out.write_all(b"audit ")?;
+    put(out, n)?;
+    put(out, wide(verdict[0]))?;
+    out.write_all(b"\n")
 }
 
 // Where line a's word stands, and the view of it: on words, as finding takes them.
-fn look(memory: &[u8; 16], tags: &[u8; 8], states: &[u8; 2], data: &[u8; 16], a: usize) {
+fn look<W: Write>(
+    out: &mut W,
+    memory: &[u8; 16],
+    tags: &[u8; 8],
+    states: &[u8; 2],
+    data: &[u8; 16],
+    a: usize,
+) -> Result<()> {
     let s = shape_of(2, 2);
     let lines = two_words(memory);
     let labels = two_tags(tags);
@@ -148,18 +160,18 @@ fn look(memory: &[u8; 16], tags: &[u8; 8], states: &[u8; 2], data: &[u8; 16], a:
     let found = find::find_line(s, &lines, &labels, states, &words, a);
     match found {
         Found::Refused(n) => {
-            io::write_all(1, b"refused ");
-            put(n);
+            out.write_all(b"refused ")?;
+            put(out, n)?;
         }
         Found::Holder(p) => {
-            io::write_all(1, b"port ");
-            put(p as u64);
+            out.write_all(b"port ")?;
+            put(out, p as u64)?;
         }
         Found::Memory => {
-            io::write_all(1, b"memory ");
+            out.write_all(b"memory ")?;
         }
     }
-    put_words(find::view_line(s, &lines, &labels, states, &words, a));
+    put_words(out, find::view_line(s, &lines, &labels, states, &words, a))
 }
 
 // A shape of one set, without ranges.
@@ -237,18 +249,25 @@ const UNSOUND: [u64; 8] = [0x8, 0, 0x13, 0, 0x5, 0, 0x4, 0];
 const RANGES: [u64; 8] = [0xFF01, 9, 0x4, 0, 0x1FF09, 8, 0x10004, 0];
 
 // Refusal 2, nine ports; 3, a memory of two words for one line; 12, a range of three lines of two; and the others.
-fn refusals(memory: &mut [u8; 16], tags: &mut [u8; 8], states: &mut [u8; 2], data: &mut [u8; 16]) {
+fn refusals<W: Write>(
+    out: &mut W,
+    memory: &mut [u8; 16],
+    tags: &mut [u8; 8],
+    states: &mut [u8; 2],
+    data: &mut [u8; 16],
+) -> Result<()> {
     let read = [0x8u64, 0];
-    run(shape_of(9, 2), memory, tags, states, data, &read);
-    run(shape_of(2, 1), memory, tags, states, data, &read);
-    run(ranged(3, 0), memory, tags, states, data, &read);
-    run(ranged(0, 3), memory, tags, states, data, &read);
-    run(shape_of(2, 2), memory, tags, states, data, &REFUSED);
+    run(out, shape_of(9, 2), memory, tags, states, data, &read)?;
+    run(out, shape_of(2, 1), memory, tags, states, data, &read)?;
+    run(out, ranged(3, 0), memory, tags, states, data, &read)?;
+    run(out, ranged(0, 3), memory, tags, states, data, &read)?;
+    run(out, shape_of(2, 2), memory, tags, states, data, &REFUSED)?;
     states[0] = 3;
-    run(shape_of(2, 2), memory, tags, states, data, &UNSOUND);
+    run(out, shape_of(2, 2), memory, tags, states, data, &UNSOUND)
 }
 
-fn main() {
+// The whole run.
+fn play<W: Write>(out: &mut W) -> Result<()> {
     let mut memory = [0u8; 16];
     endian::write_eight(&mut memory, 0, 5);
     endian::write_eight(&mut memory, 8, 7);
@@ -269,19 +288,54 @@ fn main() {
         &mut states,
         &mut data,
     );
-    run(s, &mut memory, &mut tags, &mut states, &mut data, &FOURTEEN);
-    audited(&memory, &tags, &states, &data);
-    look(&memory, &tags, &states, &data, 0);
-    look(&memory, &tags, &states, &data, 1);
-    look(&memory, &tags, &states, &data, 2);
-    run(s, &mut memory, &mut tags, &mut states, &mut data, &DEVICE);
-    audited(&memory, &tags, &states, &data);
-    look(&memory, &tags, &states, &data, 1);
+    run(
+        out,
+        s,
+        &mut memory,
+        &mut tags,
+        &mut states,
+        &mut data,
+        &FOURTEEN,
+    )?;
+    audited(out, &memory, &tags, &states, &data)?;
+    look(out, &memory, &tags, &states, &data, 0)?;
+    look(out, &memory, &tags, &states, &data, 1)?;
+    look(out, &memory, &tags, &states, &data, 2)?;
+    run(
+        out,
+        s,
+        &mut memory,
+        &mut tags,
+        &mut states,
+        &mut data,
+        &DEVICE,
+    )?;
+    audited(out, &memory, &tags, &states, &data)?;
+    look(out, &memory, &tags, &states, &data, 1)?;
     let r = ranged(1, 2);
-    run(r, &mut memory, &mut tags, &mut states, &mut data, &RANGES);
-    audited(&memory, &tags, &states, &data);
-    look(&memory, &tags, &states, &data, 1);
-    refusals(&mut memory, &mut tags, &mut states, &mut data);
-    audited(&memory, &tags, &states, &data);
-    look(&memory, &tags, &states, &data, 0);
+    run(
+        out,
+        r,
+        &mut memory,
+        &mut tags,
+        &mut states,
+        &mut data,
+        &RANGES,
+    )?;
+    audited(out, &memory, &tags, &states, &data)?;
+    look(out, &memory, &tags, &states, &data, 1)?;
+    refusals(out, &mut memory, &mut tags, &mut states, &mut data)?;
+    audited(out, &memory, &tags, &states, &data)?;
+    look(out, &memory, &tags, &states, &data, 0)
+}
+
+// Room for all that is printed. It is laid out on the stack, and written at once.
+const ROOM: usize = 4096;
+
+fn main(rt: HostRuntime) -> Result<()> {
+    let mut page = Cursor::new([0u8; ROOM]);
+    play(&mut page)?;
+    let n = page.position().min(ROOM as u64) as usize;
+    let bytes = page.get_ref();
+    rt.write_all(&bytes[..n])
 }
