@@ -42,7 +42,6 @@ pub struct Coded {
 #[derive(Clone, Copy)]
 pub struct Row(pub u64, pub u64);
 
-#[tactic(auto, unfolding(crate::specs::Coded::own_row_at, crate::specs::Coded::own_row, crate::specs::Coded::packed, crate::specs::Coded::pack, crate::specs::Coded::act_number, crate::specs::Coded::outcome_at, crate::specs::Coded::mode_at, crate::specs::Coded::bus_number, crate::specs::Rules::rule, crate::specs::State::code))]
 fn own_row(n: u8) -> Row
     requires { n < 16 }
     ensures { result ≡ own_row_at n }
