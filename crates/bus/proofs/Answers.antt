@@ -23,7 +23,7 @@ use Rattle.protocol.specs.Coded.{bus_at, nibble_at, snoop_row}
 use Rattle.protocol.proofs.States.{code-state_of}
 use Rattle.protocol.proofs.Rows.{snooped_is}
 use Rattle.protocol.proofs.Kept.{quiet_same, quiet_keeps}
-use Rattle.endian.specs.Little.{number, numbers, bytes_of}
+use Rattle.endian.specs.Little.{numbers, bytes_of}
 use Rattle.endian.proofs.Little.{set-numbers}
 use Rattle.shape.specs.declared.Shape.{Shape}
 use Rattle.shape.specs.Shape.{entries, entry_of}

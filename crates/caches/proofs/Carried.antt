@@ -16,7 +16,7 @@ use Rattle.protocol.specs.Coded.{bus_at}
 use Rattle.protocol.proofs.Rows.{bus_below, bus_at_lem}
 use Rattle.shape.specs.declared.Shape.{Shape}
 use Rattle.shape.specs.Shape.{entry_number, entry_of}
-use Rattle.model.specs.Tables.{Model, sound, seen, word_at, holds}
+use Rattle.model.specs.Tables.{Model, seen, word_at, holds}
 use Rattle.model.specs.Step.{result, store, byte_answered, word_answered, word_found, evicts_owner, applied, access_rule}
 use Rattle.model.specs.Step.{accessed}
 use Rattle.ports.specs.declared.line.Line.{Line}

@@ -22,7 +22,7 @@ use Rattle.protocol.proofs.States.{not_valid}
 use Rattle.shape.specs.declared.Shape.{Shape}
 use Rattle.model.specs.declared.answer.Answer.{Answer}
 use Rattle.shape.specs.Shape.{entry_number, entry_of}
-use Rattle.model.specs.Tables.{Model, state_at, home_at, sound, seen, word_at, holds, dirty}
+use Rattle.model.specs.Tables.{Model, state_at, home_at, seen, word_at, holds, dirty}
 use Rattle.model.specs.Step.{accepted, word_supplied, shared, word_found, fetches, evicts_owner, access_rule}
 use Rattle.model.specs.Step.{accessed}
 use Rattle.model.proofs.Entries.{seen_tag, seen_here, home_is}

@@ -19,7 +19,7 @@ use Rattle.counters.specs.Totals.{Totals, places, zeros, full, totals_after, Few
 use Rattle.counters.specs.Run.{answered}
 use Rattle.counters.proofs.Places.{room_at}
 use Rattle.counters.proofs.Sums.{Adds, adds_none, adds_answer, after_most, after_length, beyond, Grows, grows_none, grows_more, from_zeros}
-use Rattle.host.specs.Host.{host_refusal, hosted, refusal_put, host_step}
+use Rattle.host.specs.Host.{host_refusal, refusal_put, host_step}
 use Rattle.host.specs.Totals.{record_refusal, record_refused, HostedTotals, host_step_totals}
 use Rattle.host.specs.Totals.{HostCall, leaves, answer_to, AnswerShown, RecordBeside, answers_on, record_on, zero_record, RecordsAreSums}
 use Rattle.host.proofs.Totals.{step_answer, step_counts, answer_not_nine, record_misfit, record_full, call_counted}

@@ -1,25 +1,25 @@
 -- What the two ranges of a shape do: the proofs of the statements in specs/Ranges.antt. Assumes nothing.
-use Prim.Native.Nat.{ℕ, zero, suc, ◌+◌, ◌<◌, ◌≤◌}
-use mathlib.Core.Path.{◌≡◌, refl, sym, ◌∙◌, ap}
+use Prim.Native.Nat.{ℕ, zero, suc, ◌<◌}
+use mathlib.Core.Path.{◌≡◌, refl, sym}
 use mathlib.Core.Logic.{◌≢◌}
 use mathlib.Core.Bool.{Bool, true, false, cond, ◌&&◌, ◌||◌, not}
 use mathlib.Core.List.{List, [], ◌∷◌}
 use native.Mathlib.Omega.{arith}
 use native.Mathlib.Decide.{ℕ_discrete}
-use lib.ListN.{get_or, length}
+use lib.ListN.{get_or}
 use lib.Dec.{eqb, leb}
 use borrow.Author.Tests.{eq-eqb, ne_eqb}
 use Rattle.protocol.specs.declared.state.Mode.{Mode}
 use Rattle.protocol.specs.declared.state.Mode.TheVariants.{Through, Back}
 use Rattle.words.specs.declared.access.Access.{Access}
 use Rattle.words.specs.declared.access.Access.TheVariants.{Read, Write, Swap}
-use Rattle.words.proofs.Bools.{Is, and_r, and_none, by_cond}
+use Rattle.words.proofs.Bools.{and_r, by_cond}
 use Rattle.shape.specs.declared.Shape.{Shape}
 use Rattle.model.specs.declared.order.Call.{Call}
 use Rattle.model.specs.declared.order.Call.TheVariants.{ByPort}
 use Rattle.model.specs.declared.order.Decoded.{Decoded}
 use Rattle.model.specs.declared.order.Decoded.TheVariants.{Asked, Refused}
-use Rattle.shape.specs.Range.{range, inside, ends_by, IsIn}
+use Rattle.shape.specs.Range.{range, ends_by, IsIn}
 use Rattle.shape.specs.Shape.{without_ranges, ranges_end}
 use Rattle.model.specs.Order.{Order, bits, kinds, has_port, mode_in_force, checked, call_of, decode}
 use Rattle.model.specs.Tables.{Model, lent_refusal, sound, seen, word_at, dirty}

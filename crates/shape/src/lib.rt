@@ -122,7 +122,6 @@ impl Shape {
         p * self.sets + index
     }
 
-
     pub fn sizes(self) -> Sizes
         requires { in_range self ≡ true }
         ensures { result ≡ sizes_of self }

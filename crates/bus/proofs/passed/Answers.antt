@@ -1,5 +1,5 @@
 -- What is still to come and what is there make up the whole, turn by turn. Assumes nothing.
-use Rattle.std.proofs.Common.{◌≡◌, ◌≢◌, ◌+◌, ◌-◌, ◌*◌, ℕ, arith, ap, ◌∙◌}
+use Rattle.std.proofs.Common.{◌≡◌, ◌+◌, ◌-◌, ◌*◌, ℕ, arith, ap, ◌∙◌}
 use native.Mathlib.Nat.{add-mul, one-mul}
 use Rattle.bus.proofs.passed.Goals as goal
 

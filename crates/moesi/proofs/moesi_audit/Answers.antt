@@ -1,5 +1,5 @@
 -- Refusals 2, 3 and 12, then the audit, and its yes or no in one byte. Assumes nothing.
-use Rattle.std.proofs.Common.{length, nat_eq, true, ◌≡◌, arith}
+use Rattle.std.proofs.Common.{length, arith}
 use borrow.Author.Tests.{eqb-true}
 use Rattle.lengths.proofs.Lengths.{out_fits}
 use Rattle.host.proofs.Host.{of_bytes, audit-fits, audit-accepted, audit-refused, audit_left}
