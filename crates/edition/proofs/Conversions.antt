@@ -1,8 +1,8 @@
 -- The conversion of tables, by its returns, and there and back. Assumes nothing.
-use Prim.Native.Nat.{ℕ, ◌<◌, ◌≤◌}
+use Prim.Native.Nat.{ℕ, ◌+◌, ◌<◌, ◌≤◌}
 use mathlib.Core.Path.{◌≡◌, refl, sym, ap, ◌∙◌}
 use mathlib.Core.Logic.{◌≢◌}
-use mathlib.Core.Bool.{Bool, true, false, cond, ◌&&◌, not}
+use mathlib.Core.Bool.{Bool, true, false, cond, ◌&&◌, ◌||◌, not}
 use mathlib.Core.List.{List, map}
 use native.Mathlib.Omega.{arith}
 use lib.Dec.{eqb}
@@ -17,10 +17,11 @@ use Rattle.model.proofs.Loops.{seeking_found}
 use Rattle.lengths.specs.Lengths.{tables_fit}
 use Rattle.lengths.proofs.Lengths.{tables_fitting}
 use Rattle.letters.specs.declared.Way.{Way}
+use Rattle.letters.specs.declared.Converted.{Converted}
 use Rattle.letters.specs.Letters.{converted, is_no_state, is_in_through, byte_from}
 use Rattle.edition.specs.Convert.{Tables, tables, fit, states_refusal, conversion_refusal, moved, conversion, convert}
 use Rattle.letters.specs.Claims.{Becomes}
-use Rattle.edition.proofs.Loops.{Asking, asking_done}
+use Rattle.edition.proofs.Loops.{Asking, asking_more, asking_done}
 
 module _ (way : Way) (states : List ℕ) where
   -- The two tests of a byte.
@@ -42,6 +43,15 @@ module _ (way : Way) (states : List ℕ) where
     pub found_none : length states ≤ k → some ≡ false → 0 ≡ states_refusal way states
     unfolding states_refusal
     found_none h u = let d = asking_done no_state_at in_through_at v h in rw (← d.0, ← d.1, u)
+
+    -- The same of a byte converted first, and the next step: c is what the byte at k becomes.
+    pub told_no_state : {c : Converted} {b : Bool} → k < length states → c ≡ converted way (get_or states k 0) → b ≡ is_no_state c → b ≡ true
+        → 10 ≡ states_refusal way states
+    told_no_state h ec eb u = found_no_state h (eb ∙ ap is_no_state ec) u
+
+    pub told_more : {c : Converted} {b x : Bool} → k < length states → c ≡ converted way (get_or states k 0) → b ≡ is_no_state c → b ≡ false
+        → x ≡ is_in_through c → Asking no_state_at in_through_at (length states) (k + 1) (some || x)
+    told_more h ec eb u ex = asking_more no_state_at in_through_at v h (eb ∙ ap is_no_state ec) u (ex ∙ ap is_in_through ec)
 
   -- No refusal: every byte becomes one of the other edition.
   pub all_become : states_refusal way states ≡ 0 → (k : ℕ) → k < length states → Becomes (converted way (get_or states k 0))

@@ -9,6 +9,7 @@ use letters::Way;
 use shape::Shape;
 
 // Refusal 10 or 11 of a state table, else 0. A byte that is no state is told before one in write through, wherever the two stand.
+#[tactic(auto, using(crate::proofs::Conversions::found_through, crate::proofs::Conversions::found_none))]
 fn states_refusal(way: Way, states: &[u8]) -> u64
     ensures { result ≡ states_refusal way states.now }
 {
