@@ -3,10 +3,11 @@
 // its refusal and ends the reading. What it prints for the traces in the file stdin is kept in the file stdout.
 #![tactic(auto)]
 
-ghost use Rattle.std.specs.Prelude.{◌≡◌, ◌≤◌, length};
+ghost use Rattle.std.specs.Prelude.{◌≡◌, ◌≤◌, IfOk, length};
 ghost use Rattle.counters.specs.Totals.{zeros, record_length, totals_in};
 
 use counters::lent;
+use std::io::{Cursor, Read, Result, Write};
 
 // The most traces that are read. A total of a trace is at most 2 x 2,048, so a sum of 9,999 traces is below 2 to the 26: no sum passes 64 bits.
 const MOST_TRACES: u64 = 9999;
@@ -15,64 +16,114 @@ const MOST_TRACES: u64 = 9999;
 const ROOM: usize = 16 + 16 * replay::MAX_ORDERS;
 
 // A number, with a blank or a line feed after it.
-fn put(n: u64, end: &[u8]) {
-    io::print_decimal(1, n);
-    io::write_all(1, end);
+fn put<W: Write>(out: &mut W, n: u64, end: &[u8]) -> Result<()> {
+    write!(out, "{n}")?;
+    out.write_all(end)
 }
 
-fn put_row(number: u64, row: &[u8])
+// The line of a trace that is refused.
+fn put_refusal<W: Write>(out: &mut W, refusal: u64) -> Result<()> {
+    out.write_all(b"refused ")?;
+    put(out, refusal, b"\n")
+}
+
+fn put_row<W: Write>(out: &mut W, number: u64, row: &[u8]) -> Result<()>
     requires { length row.now ≡ record_length }
 {
     let mut k = 0;
     while k < lent::PLACES {
-        put(tally::row_number(number, row, k), b" ");
+        put(out, tally::row_number(number, row, k), b" ")?;
         k += 1;
     }
-    put(tally::row_number(number, row, lent::PLACES), b"\n");
+    put(out, tally::row_number(number, row, lent::PLACES), b"\n")
+}
+
+// Room for one line. None is longer than 231 bytes: those of eleven numbers of twenty digits.
+const LINE: usize = 256;
+
+// A line that is laid out on the stack is written to standard output at once.
+fn print_line(rt: &impl Print, line: &Cursor<[u8; LINE]>) -> Result<()> {
+    let n = line.position().min(LINE as u64) as usize;
+    let bytes = line.get_ref();
+    rt.write_all(&bytes[..n])
+}
+
+fn print_row(rt: &impl Print, number: u64, row: &[u8]) -> Result<()>
+    requires { length row.now ≡ record_length }
+{
+    let mut line = Cursor::new([0u8; LINE]);
+    put_row(&mut line, number, row)?;
+    print_line(rt, &line)
+}
+
+fn print_refusal(rt: &impl Print, refusal: u64) -> Result<()> {
+    let mut line = Cursor::new([0u8; LINE]);
+    put_refusal(&mut line, refusal)?;
+    print_line(rt, &line)
+}
+
+// Reads until the buffer is full or the input ends. Returns how many bytes it put in front in the buffer.
+fn read_full<R: Read>(input: &mut R, buffer: &mut [u8]) -> Result<usize>
+    ensures { IfOk result (λ n. n ≤ length buffer.new) }
+{
+    let mut done = 0;
+    while done < buffer.len() {
+        let n = input.read(&mut buffer[done..])?;
+        if n == 0 {
+            break;
+        }
+        done += n;
+    }
+    Ok(done)
 }
 
 // The next trace: its 16 bytes of sizes, and behind them as many as a trace of these sizes has, none where they say too many orders. Returns how
 // many bytes there were, 0 at the end of input.
-fn read_trace(buffer: &mut [u8]) -> usize
+fn read_trace<R: Read>(input: &mut R, buffer: &mut [u8]) -> Result<usize>
     requires { length buffer.old ≡ 32784 }
-    ensures { result ≤ 32784 }
+    ensures { IfOk result (λ n. n ≤ 32784) }
 {
-    let n = io::read_full(0, &mut buffer[..16]);
+    let n = read_full(input, &mut buffer[..16])?;
     if n < 16 {
-        return n;
+        return Ok(n);
     }
     let end = 16 + tally::rest_of(buffer);
-    let m = io::read_full(0, &mut buffer[16..end]);
-    16 + m
+    let m = read_full(input, &mut buffer[16..end])?;
+    Ok(16 + m)
 }
 
 // The rows of the traces, one after another in row, and their sum.
-fn put_rows(buffer: &mut [u8], row: &mut [u8], sum: &mut [u8])
+fn put_rows<R: Read>(
+    rt: &impl Print,
+    input: &mut R,
+    buffer: &mut [u8],
+    row: &mut [u8],
+    sum: &mut [u8],
+) -> Result<()>
     requires buffer_len { (length buffer.old ≡ 32784) × (length row.old ≡ record_length) }
     requires sum_len { (length sum.old ≡ record_length) × (totals_in sum.old ≡ zeros) }
 {
     let mut k = 0;
     while k < MOST_TRACES {
-        let n = read_trace(buffer);
+        let n = read_trace(input, buffer)?;
         if n == 0 {
-            return;
+            return Ok(());
         }
         let refusal = tally::tally_trace(&buffer[..n], row);
         if refusal != 0 {
-            io::write_all(1, b"refused ");
-            put(refusal, b"\n");
-            return;
+            return print_refusal(rt, refusal);
         }
-        put_row(k + 1, row);
+        print_row(rt, k + 1, row)?;
         tally::add_row(sum, row);
         k += 1;
     }
+    Ok(())
 }
 
-fn main() {
+fn main(rt: HostRuntime) -> Result<()> {
     let mut buffer = [0u8; ROOM];
     let mut row = [0u8; lent::RECORD_BYTES];
     let mut sum = [0u8; lent::RECORD_BYTES];
-    put_rows(&mut buffer, &mut row, &mut sum);
-    put_row(0, &sum);
+    put_rows(&rt, &mut rt.stdin(), &mut buffer, &mut row, &mut sum)?;
+    print_row(&rt, 0, &sum)
 }
