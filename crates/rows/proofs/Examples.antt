@@ -61,8 +61,8 @@ snoop_tested : Is (for_buses (λ b. for_states (λ s. test (snoop b s)))) → (b
 snoop_tested h b s = at_state (λ s. test (snoop b s)) (at_bus (λ b. for_states (λ s. test (snoop b s))) h b) s
 
 all_tested : (c : Case) → Is (test c)
-unfolding computing test own_tests arises printed own_audited snoop_audited audited case_number bus_number source_of reads_in writes_in row_of word_from effect_here bus_at heard_by cases_of rows_of any_row example_of
-    entries_sound every_two line_passes tables_pass audit
+unfolding computing test own_tests arises printed own_audited snoop_audited audited case_number bus_number source_of reads_in writes_in row_of word_from effect_here
+    bus_at heard_by cases_of rows_of any_row example_of entries_sound every_two line_passes tables_pass audit
 all_tested (own k m shared dirty s) = own_tested refl k m shared dirty s
 all_tested (snoop b s) = snoop_tested refl b s
 all_tested (take_over s) = at_state (λ s. test (take_over s)) refl s
