@@ -78,6 +78,7 @@ pub fn moesi_step(
 
 // One order with a record of totals, which is brought up to date. Refusal 9 comes first of all, where the record has its length and a total
 // has no room; a record of another length is refused and left alone.
+#[tactic(auto, using(host::proofs::Host::of_bytes, host::proofs::Totals::record_misfit))]
 pub fn moesi_step_totals(
     ports: usize,
     sets: usize,
