@@ -10,6 +10,7 @@ use ports::line::Line;
 use ports::{entry, mask};
 
 // The lowest-numbered owner's word, else memory's. Who the owners are is given: tags and states are lent for what is said of them.
+#[tactic(auto, using(crate::proofs::Supplied::supplied_memory))]
 pub fn supplied_word(
     memory: &[u8],
     tags: &[u8],

@@ -47,6 +47,7 @@ pub fn orders_in(trace: &[u8]) -> usize
 }
 
 // Refusal 1 or 2, in checking order, else 0.
+#[tactic(auto, using(crate::proofs::Refusing::refused_many))]
 pub fn trace_refusal(trace: &[u8]) -> u64
     ensures { result ≡ trace_refusal trace.now }
 {
