@@ -336,7 +336,5 @@ const ROOM: usize = 32768;
 pub fn print_tables(rt: &impl Print, form: Form) -> Result<()> {
     let mut page = Cursor::new([0u8; ROOM]);
     put_tables(&mut page, form)?;
-    let n = page.position().min(ROOM as u64) as usize;
-    let bytes = page.get_ref();
-    rt.write_all(&bytes[..n])
+    console::print_page(rt, &page)
 }

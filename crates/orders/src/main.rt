@@ -335,7 +335,5 @@ const ROOM: usize = 4096;
 fn main(rt: HostRuntime) -> Result<()> {
     let mut page = Cursor::new([0u8; ROOM]);
     play(&mut page)?;
-    let n = page.position().min(ROOM as u64) as usize;
-    let bytes = page.get_ref();
-    rt.write_all(&bytes[..n])
+    console::print_page(&rt, &page)
 }

@@ -6,6 +6,7 @@
 ghost use Rattle.std.specs.Prelude.{◌≡◌, ◌≤◌, IfOk, length};
 ghost use Rattle.counters.specs.Totals.{zeros, record_length, totals_in};
 
+use console::{print_page, read_full};
 use counters::lent;
 use std::io::{Cursor, Read, Result, Write};
 
@@ -38,43 +39,21 @@ fn put_row<W: Write>(out: &mut W, number: u64, row: &[u8]) -> Result<()>
     put(out, tally::row_number(number, row, lent::PLACES), b"\n")
 }
 
-// Room for one line. None is longer than 231 bytes: those of eleven numbers of twenty digits.
+// Room for one line, which is laid out and then written at once. None is longer than 231 bytes: those of eleven numbers of twenty digits.
 const LINE: usize = 256;
-
-// A line that is laid out on the stack is written to standard output at once.
-fn print_line(rt: &impl Print, line: &Cursor<[u8; LINE]>) -> Result<()> {
-    let n = line.position().min(LINE as u64) as usize;
-    let bytes = line.get_ref();
-    rt.write_all(&bytes[..n])
-}
 
 fn print_row(rt: &impl Print, number: u64, row: &[u8]) -> Result<()>
     requires { length row.now ≡ record_length }
 {
     let mut line = Cursor::new([0u8; LINE]);
     put_row(&mut line, number, row)?;
-    print_line(rt, &line)
+    print_page(rt, &line)
 }
 
 fn print_refusal(rt: &impl Print, refusal: u64) -> Result<()> {
     let mut line = Cursor::new([0u8; LINE]);
     put_refusal(&mut line, refusal)?;
-    print_line(rt, &line)
-}
-
-// Reads until the buffer is full or the input ends. Returns how many bytes it put in front in the buffer.
-fn read_full<R: Read>(input: &mut R, buffer: &mut [u8]) -> Result<usize>
-    ensures { IfOk result (λ n. n ≤ length buffer.new) }
-{
-    let mut done = 0;
-    while done < buffer.len() {
-        let n = input.read(&mut buffer[done..])?;
-        if n == 0 {
-            break;
-        }
-        done += n;
-    }
-    Ok(done)
+    print_page(rt, &line)
 }
 
 // The next trace: its 16 bytes of sizes, and behind them as many as a trace of these sizes has, none where they say too many orders. Returns how

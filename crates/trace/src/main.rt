@@ -2,10 +2,11 @@
 // refusal of the trace alone. What it prints for the trace in the file stdin is kept in the file stdout.
 #![tactic(auto)]
 
-ghost use Rattle.std.specs.Prelude.{◌<◌, ◌≤◌, IfOk, length};
+ghost use Rattle.std.specs.Prelude.{◌<◌, ◌≤◌};
 
+use console::{print_page, read_full};
 use replay::Played;
-use std::io::{Cursor, Read, Result, Write};
+use std::io::{Cursor, Result, Write};
 
 // A number, with a space or a line feed after it.
 fn put<W: Write>(out: &mut W, n: u64, end: &[u8]) -> Result<()> {
@@ -48,15 +49,8 @@ fn put_audit<W: Write>(out: &mut W, passes: bool) -> Result<()> {
     put(out, if passes { 1 } else { 0 }, b"\n")
 }
 
-// Room for one line. None is longer than 110 bytes: those of a place of four digits and five numbers of twenty.
+// Room for one line, which is laid out and then written at once. None is longer than 110 bytes: those of a place of four digits and five numbers of twenty.
 const LINE: usize = 128;
-
-// A line that is laid out on the stack is written to standard output at once.
-fn print_line(rt: &impl Print, line: &Cursor<[u8; LINE]>) -> Result<()> {
-    let n = line.position().min(LINE as u64) as usize;
-    let bytes = line.get_ref();
-    rt.write_all(&bytes[..n])
-}
 
 // The lines of n orders.
 fn put_answers(rt: &impl Print, answers: &[u64; replay::MAX_NUMBERS], n: usize) -> Result<()>
@@ -66,7 +60,7 @@ fn put_answers(rt: &impl Print, answers: &[u64; replay::MAX_NUMBERS], n: usize) 
     while k < n {
         let mut line = Cursor::new([0u8; LINE]);
         put_answer(&mut line, answers, k)?;
-        print_line(rt, &line)?;
+        print_page(rt, &line)?;
         k += 1;
     }
     Ok(())
@@ -78,26 +72,11 @@ fn put_played(rt: &impl Print, p: Played, answers: &[u64; replay::MAX_NUMBERS]) 
 {
     let mut first = Cursor::new([0u8; LINE]);
     put_sizes(&mut first, p)?;
-    print_line(rt, &first)?;
+    print_page(rt, &first)?;
     put_answers(rt, answers, p.orders)?;
     let mut last = Cursor::new([0u8; LINE]);
     put_audit(&mut last, p.passes)?;
-    print_line(rt, &last)
-}
-
-// Reads until the buffer is full or the input ends. Returns how many bytes it put in front in the buffer.
-fn read_full<R: Read>(input: &mut R, buffer: &mut [u8]) -> Result<usize>
-    ensures { IfOk result (λ n. n ≤ length buffer.new) }
-{
-    let mut done = 0;
-    while done < buffer.len() {
-        let n = input.read(&mut buffer[done..])?;
-        if n == 0 {
-            break;
-        }
-        done += n;
-    }
-    Ok(done)
+    print_page(rt, &last)
 }
 
 // Room for the longest trace, and for one byte more: a longer input is then refused by its length.
@@ -111,7 +90,7 @@ fn main(rt: HostRuntime) -> Result<()> {
     if p.refusal != 0 {
         let mut line = Cursor::new([0u8; LINE]);
         put_refusal(&mut line, p.refusal)?;
-        return print_line(&rt, &line);
+        return print_page(&rt, &line);
     }
     put_played(&rt, p, &answers)
 }

@@ -1,6 +1,6 @@
 -- The loop goes through the buffer, by as many bytes as each read gives. Assumes nothing.
 use Rattle.std.proofs.Common.{◌-◌, ◌≤◌, length}
-use Rattle.totals.proofs.read_full.Given as goal
+use Rattle.console.proofs.read_full.Given as goal
 
 abbrev pub invariant-loop-done : goal.invariant-loop-done
 invariant-loop-done g l = l.done ≤ length l.buffer
