@@ -4,9 +4,8 @@ use mathlib.Core.Path.{◌≡◌, refl, sym, subst, ◌∙◌}
 use mathlib.Core.Bool.{Bool, true, false, cond, ◌&&◌, not, false≢true}
 use lib.Dec.{eqb, leb}
 use borrow.Author.Tests.{eqb-true, not-true, not-false}
+use Rattle.std.specs.Prelude.{Option, Some, None}
 use Rattle.protocol.specs.declared.state.State.{State}
-use Rattle.protocol.specs.declared.state.Byte.{Byte}
-use Rattle.protocol.specs.declared.state.Byte.TheVariants.{Of, No}
 use Rattle.words.specs.Bools.{implies}
 use Rattle.protocol.specs.State.{code, state_of, is_state, or_invalid, valid, owner, exclusive, is_o, mode_of, same_mode}
 use Rattle.protocol.specs.Coded.{nibble_at}
@@ -35,36 +34,36 @@ row-says : (s : State) → nibble_at class_row (code s % 16) ≡ class_number s
 unfolding nibble_at code
 row-says s = eqb-true _ _ (at_state (λ s. eqb (nibble_at class_row (code s % 16)) (class_number s)) refl s)
 
-state_class : (y : Byte) → Is (is_state y) → class_number (or_invalid y) ≡ class_of y
-state_class (Of s) h = refl
-state_class No h = absurd (false≢true h)
+state_class : (y : Option State) → Is (is_state y) → class_number (or_invalid y) ≡ class_of y
+state_class (Some s) h = refl
+state_class None h = absurd (false≢true h)
 
-pub class_row_lem : (b : ℕ) {y : Byte} {z : Bool} {n : ℕ} → y ≡ state_of b → z ≡ is_state y → not z ≡ false → n ≡ nibble_at class_row (b % 16)
+pub class_row_lem : (b : ℕ) {z : Bool} {n : ℕ} → z ≡ is_state (state_of b) → z ≡ true → n ≡ nibble_at class_row (b % 16)
     → n ≡ class_of (state_of b)
-class_row_lem b {y} {z} ey ez v en =
-    let h : Is (is_state (state_of b)) = rw (← ey, ← ez) (not-false z v) in
+class_row_lem b ez v en =
+    let h : Is (is_state (state_of b)) = sym ez ∙ v in
     en ∙ subst (λ (k : ℕ). nibble_at class_row (k % 16) ≡ class_of (state_of b)) (code-state_of b h)
     (row-says (or_invalid (state_of b)) ∙ state_class (state_of b) h)
 
-pub class_none : (b : ℕ) {y : Byte} {z : Bool} → y ≡ state_of b → z ≡ is_state y → not z ≡ true → 1 ≡ class_of (state_of b)
-class_none b ey ez v = none (state_of b) (rw (← ey, ← ez) (not-true _ v))
+pub class_none : (b : ℕ) {z : Bool} → z ≡ is_state (state_of b) → z ≡ false → 1 ≡ class_of (state_of b)
+class_none b ez v = none (state_of b) (sym ez ∙ v)
   where
-    none : (y : Byte) → is_state y ≡ false → 1 ≡ class_of y
-    none (Of s) h = absurd (false≢true (sym h))
-    none No h = refl
+    none : (y : Option State) → is_state y ≡ false → 1 ≡ class_of y
+    none (Some s) h = absurd (false≢true (sym h))
+    none None h = refl
 
 -- Held, owned, and a state.
-pub class_valid : (y : Byte) → leb 8 (class_of y) ≡ valid (or_invalid y)
-class_valid (Of s) = by_state (λ s. leb 8 (class_number s)) valid refl s
-class_valid No = refl
+pub class_valid : (y : Option State) → leb 8 (class_of y) ≡ valid (or_invalid y)
+class_valid (Some s) = by_state (λ s. leb 8 (class_number s)) valid refl s
+class_valid None = refl
 
-pub class_owner : (y : Byte) → is_owner (class_of y) ≡ owner (or_invalid y)
-class_owner (Of s) = by_state (λ s. is_owner (class_number s)) owner refl s
-class_owner No = refl
+pub class_owner : (y : Option State) → is_owner (class_of y) ≡ owner (or_invalid y)
+class_owner (Some s) = by_state (λ s. is_owner (class_number s)) owner refl s
+class_owner None = refl
 
-pub class_state : (y : Byte) → Is (not (valid (or_invalid y))) → eqb (class_of y) 0 ≡ is_state y
-class_state (Of s) h = mp (at_state (λ s. implies (not (valid s)) (eqb (class_number s) 0)) refl s) h
-class_state No h = refl
+pub class_state : (y : Option State) → Is (not (valid (or_invalid y))) → eqb (class_of y) 0 ≡ is_state y
+class_state (Some s) h = mp (at_state (λ s. implies (not (valid s)) (eqb (class_number s) 0)) refl s) h
+class_state None h = refl
 
 -- Two holders of a line stand together, by what the model's audit asks of their states.
 abbrev pub together : State → State → Bool
@@ -86,10 +85,10 @@ pub together_one_o : (y z : State) → Is (together y z) → Is (is_o y) → Is 
 together_one_o y z h a b = not_both (both a b) (mp (at_states (λ y z. implies (together y z) (not (is_o y && is_o z))) refl y z) h)
 
 -- The classes say it too.
-pub class_compatible : (y z : Byte) → Is (valid (or_invalid y)) → Is (valid (or_invalid z))
+pub class_compatible : (y z : Option State) → Is (valid (or_invalid y)) → Is (valid (or_invalid z))
     → compatible (class_of y) (class_of z) ≡ together (or_invalid y) (or_invalid z)
 unfolding compatible
-class_compatible (Of y) (Of z) v w = same_eq (compatible (class_number y) (class_number z)) (together y z)
+class_compatible (Some y) (Some z) v w = same_eq (compatible (class_number y) (class_number z)) (together y z)
     (at_states (λ y z. same (compatible (class_number y) (class_number z)) (together y z)) refl y z)
-class_compatible (Of y) No v w = absurd (false≢true w)
-class_compatible No z v w = absurd (false≢true v)
+class_compatible (Some y) None v w = absurd (false≢true w)
+class_compatible None z v w = absurd (false≢true v)

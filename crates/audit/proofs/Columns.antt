@@ -10,9 +10,8 @@ use native.Mathlib.Nat.{mod-lt, div-add-mod', div-lt_iff_lt-mul}
 use native.Mathlib.Decide.{ℕ_discrete}
 use native.Mathlib.Omega.{arith}
 use borrow.Author.Tests.{lt-ltb, ltb-true, not-true}
+use Rattle.std.specs.Prelude.{Option, Some, None}
 use Rattle.protocol.specs.declared.state.State.{State}
-use Rattle.protocol.specs.declared.state.Byte.{Byte}
-use Rattle.protocol.specs.declared.state.Byte.TheVariants.{Of, No}
 use Rattle.protocol.specs.State.{is_state, or_invalid, valid, owner, exclusive, is_o, mode_of, same_mode}
 use Rattle.words.proofs.Bools.{Is, and_l, and_r, both, not_both, not_is, by_bool}
 use Rattle.protocol.proofs.States.{owner-valid, exclusive-valid, o_valid, mode_itself}
@@ -32,9 +31,9 @@ use Rattle.audit.proofs.Classes.{together, together_modes, together_shared, toge
 use Rattle.audit.proofs.Pairs.{by_pairs}
 
 -- A byte that holds a line is a state.
-valid_state : (b : Byte) → Is (valid (or_invalid b)) → Is (is_state b)
-valid_state (Of s) h = refl
-valid_state No h = h
+valid_state : (b : Option State) → Is (valid (or_invalid b)) → Is (is_state b)
+valid_state (Some s) h = refl
+valid_state None h = h
 
 same_bool : (a b : Bool) → (Is a → Is b) → (Is b → Is a) → a ≡ b
 same_bool true b f g = sym (f refl)

@@ -5,8 +5,8 @@ use mathlib.Core.Bool.{Bool, true, false, cond, ◌&&◌, ◌||◌, not, false�
 use lib.ListN.{get_or}
 use lib.Dec.{eqb, leb}
 use borrow.Author.Tests.{eq-eqb, eqb-true, lt-leb, leb-false, not-true}
+use Rattle.std.specs.Prelude.{Option}
 use Rattle.protocol.specs.declared.state.State.{State}
-use Rattle.protocol.specs.declared.state.Byte.{Byte}
 use Rattle.protocol.specs.State.{state_of, is_state, valid, owner}
 use Rattle.words.proofs.Bools.{Is, and_l, and_r, both, or_l, or_r, by_bool, not_both, not_is}
 use Rattle.shape.specs.declared.Shape.{Shape}
@@ -53,7 +53,7 @@ module _ (s : Shape) (t : Model) (x q : ℕ) where
   abbrev pub tag_by : ℕ
   tag_by = get_or t.tags number_by 0
 
-  abbrev pub byte_by : Byte
+  abbrev pub byte_by : Option State
   byte_by = state_of (get_or t.states number_by 0)
 
   abbrev pub state_by : State

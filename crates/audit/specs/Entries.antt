@@ -1,11 +1,10 @@
 -- The tests of two entries, of one, and of all, as the code makes them. What two entries ask of each other goes both ways, so it is asked
 -- once, of the higher port's entry.
+use Rattle.std.specs.Prelude.{Option, Some, None}
 use Rattle.std.specs.Prelude.{ℕ, ◌+◌, ◌*◌, ◌/◌, ◌%◌, Bool, false, cond, ◌&&◌, ◌||◌, not, List, get_or, eqb, leb}
 use Rattle.protocol.specs.declared.state.Mode.TheVariants.{Through, Back}
 use Rattle.protocol.specs.declared.state.State.{State}
 use Rattle.protocol.specs.declared.state.State.TheVariants.{I, S, E, O, M}
-use Rattle.protocol.specs.declared.state.Byte.{Byte}
-use Rattle.protocol.specs.declared.state.Byte.TheVariants.{Of, No}
 use Rattle.protocol.specs.State.{state_of}
 use Rattle.shape.specs.declared.Shape.{Shape}
 use Rattle.shape.specs.Shape.{entry_number}
@@ -24,9 +23,9 @@ class_number (E Back) = 11
 class_number O = 13
 class_number M = 15
 
-abbrev pub class_of : Byte → ℕ
-class_of (Of s) = class_number s
-class_of No = 1
+abbrev pub class_of : Option State → ℕ
+class_of (Some s) = class_number s
+class_of None = 1
 
 -- What a class says: E or M; O or M.
 abbrev pub is_exclusive : ℕ → Bool

@@ -24,13 +24,15 @@ struct Held {
 
 // The class of a byte's state, as a number: 1 for a byte that is no state; 0 for I; else 8, and 1 more for write back, 2 more for E or M,
 // 4 more for O or M. The states' classes are a row of nibbles.
+#[tactic(auto, using(crate::proofs::Classes::class_row_lem, crate::proofs::Classes::class_none))]
 fn class_of(b: u8) -> u8
     ensures { result ≡ class_of (state_of b) }
 {
-    if !state::is_state(state::byte_state(b)) {
-        return 1;
+    if state::is_state(b) {
+        rules::nibble(0xFDB9000000A80, b)
+    } else {
+        1
     }
-    rules::nibble(0xFDB9000000A80, b)
 }
 
 // The class of O or M.
@@ -43,7 +45,7 @@ fn is_owner(n: u8) -> bool
 // Entry k of the tables.
 fn held_at(shape: Shape, tags: &[u8], states: &[u8], words: &[u8], k: usize) -> Held
     requires filled { Filled shape tags.now states.now words.now }
-    requires k_bound { k < entries shape }
+    requires entry { k < entries shape }
     ensures { result ≡ held_at (tables_in shape tags.now states.now words.now) k }
 {
     Held {
@@ -78,7 +80,7 @@ fn goes_with(e: Held, f: Held) -> bool
 // Entry e, which isn't I, goes with another port's entry at its index, by the number k: it is of another line, or goes with e.
 fn pair_passes(shape: Shape, tags: &[u8], states: &[u8], words: &[u8], k: usize, e: Held) -> bool
     requires filled { Filled shape tags.now states.now words.now }
-    requires k_bound { k < entries shape }
+    requires entry { k < entries shape }
     ensures { result ≡ pair_passes e (held_at (tables_in shape tags.now states.now words.now) k) }
 {
     if entry::tag_at(tags, k) != e.tag {
@@ -98,26 +100,24 @@ fn below_pass(
     p: usize,
     e: Held,
 ) -> bool
-    requires shape_value { in_range shape ≡ true }
+    requires shape { in_range shape ≡ true }
     requires filled { Filled shape tags.now states.now words.now }
-    requires x_lt_sets { (x < shape.sets) × (p < shape.ports) }
+    requires there { (x < shape.sets) × (p < shape.ports) }
     ensures { result ≡ below_pass shape (tables_in shape tags.now states.now words.now) x p e }
 {
-    let mut q = 0;
-    while q < p {
+    for q in 0..p {
         let k = shape.entry_number(q, x);
         if !pair_passes(shape, tags, states, words, k, e) {
             return false;
         }
-        q += 1;
     }
     true
 }
 
 // Entry k has the tag given and is O or M.
 fn owns_at(shape: Shape, tags: &[u8], states: &[u8], k: usize, tag: u32) -> bool
-    requires tags_len { (length tags.now ≡ tags_bytes shape) × (length states.now ≡ states_bytes shape) }
-    requires k_bound { k < entries shape }
+    requires lengths { (length tags.now ≡ tags_bytes shape) × (length states.now ≡ states_bytes shape) }
+    requires entry { k < entries shape }
     ensures { result ≡ owns_at (numbers 4 (entries shape) tags.now) states.now tag k }
 {
     (entry::tag_at(tags, k) == tag) & is_owner(class_of(states[k]))
@@ -125,19 +125,16 @@ fn owns_at(shape: Shape, tags: &[u8], states: &[u8], k: usize, tag: u32) -> bool
 
 // Some port's entry at index x has the tag given and is O or M.
 fn owned_at(shape: Shape, tags: &[u8], states: &[u8], x: usize, tag: u32) -> bool
-    requires shape_value { in_range shape ≡ true }
-    requires tags_len { (length tags.now ≡ tags_bytes shape) × (length states.now ≡ states_bytes shape) }
-    requires x_lt_sets { x < shape.sets }
+    requires shape { in_range shape ≡ true }
+    requires lengths { (length tags.now ≡ tags_bytes shape) × (length states.now ≡ states_bytes shape) }
+    requires there { x < shape.sets }
     ensures { result ≡ owned_at shape (numbers 4 (entries shape) tags.now) states.now x tag }
 {
-    let ports = shape.ports;
-    let mut port = 0;
-    while port < ports {
+    for port in 0..shape.ports {
         let k = shape.entry_number(port, x);
         if owns_at(shape, tags, states, k, tag) {
             return true;
         }
-        port += 1;
     }
     false
 }
@@ -154,7 +151,7 @@ fn entry_passes(
     p: usize,
 ) -> bool
     requires fitting { Fitting shape (bytes memory.now tags.now states.now words.now) }
-    requires x_lt_sets { (x < shape.sets) × (p < shape.ports) }
+    requires there { (x < shape.sets) × (p < shape.ports) }
     ensures { result ≡ entry_passes shape
         (model_in shape (bytes memory.now tags.now states.now words.now)) x p }
 {
@@ -186,17 +183,14 @@ fn index_passes(
     x: usize,
 ) -> bool
     requires fitting { Fitting shape (bytes memory.now tags.now states.now words.now) }
-    requires x_lt_sets { x < shape.sets }
+    requires there { x < shape.sets }
     ensures { result ≡ index_passes shape
         (model_in shape (bytes memory.now tags.now states.now words.now)) x }
 {
-    let ports = shape.ports;
-    let mut p = 0;
-    while p < ports {
+    for p in 0..shape.ports {
         if !entry_passes(shape, memory, tags, states, words, x, p) {
             return false;
         }
-        p += 1;
     }
     true
 }
@@ -206,13 +200,10 @@ pub fn audit_tables(shape: Shape, memory: &[u8], tags: &[u8], states: &[u8], wor
     requires { Fitting shape (bytes memory.now tags.now states.now words.now) }
     ensures { result ≡ audit shape (model_in shape (bytes memory.now tags.now states.now words.now)) }
 {
-    let sets = shape.sets;
-    let mut x = 0;
-    while x < sets {
+    for x in 0..shape.sets {
         if !index_passes(shape, memory, tags, states, words, x) {
             return false;
         }
-        x += 1;
     }
     true
 }

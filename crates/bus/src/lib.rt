@@ -103,7 +103,7 @@ fn broadcast(
     requires placed { Placed line }
     requires all_states { AllStates line.shape line.number states.old }
     requires of_holders { OfHolders line.shape (tables_in line.shape tags.old states.old words.old) line.number asked }
-    requires bus_bound { bus < 7 }
+    requires command { bus < 7 }
     ensures { tables_in line.shape tags.new states.new words.new
         ≡ answered line.shape (tables_in line.shape tags.old states.old words.old) line.number
         (in_mask asked) (bus_at bus) w line.shape.ports }
@@ -136,7 +136,7 @@ pub fn ask(
     requires placed { Placed line }
     requires all_states { AllStates line.shape line.number states.old }
     requires of_holders { OfHolders line.shape (tables_in line.shape tags.old states.old words.old) line.number asked }
-    requires bus_bound { bus < 7 }
+    requires command { bus < 7 }
     ensures { tables_in line.shape tags.new states.new words.new
         ≡ answered line.shape (tables_in line.shape tags.old states.old words.old) line.number
         (in_mask asked) (bus_at bus) w line.shape.ports }

@@ -16,7 +16,7 @@ use Rattle.protocol.specs.Coded.{bus_at}
 use Rattle.protocol.proofs.Rows.{bus_below, bus_at_lem}
 use Rattle.shape.specs.declared.Shape.{Shape}
 use Rattle.shape.specs.Shape.{entry_number, entry_of}
-use Rattle.model.specs.Tables.{Model, seen, word_at, holds}
+use Rattle.model.specs.Tables.{Model, seen, word_at, holds, column_sound}
 use Rattle.model.specs.Step.{result, store, byte_answered, word_answered, word_found, evicts_owner, applied, access_rule}
 use Rattle.model.specs.Step.{accessed}
 use Rattle.ports.specs.declared.line.Line.{Line}
@@ -28,7 +28,7 @@ use Rattle.ports.specs.Masks.{ports_from, in_mask, masks_of}
 use Rattle.bus.specs.Bus.{answered}
 use Rattle.ports.proofs.Masks.{in_mask_lem, of_holders}
 use Rattle.ports.proofs.Places.{some, number_is}
-use Rattle.ports.proofs.Surveys.{masks_column}
+use Rattle.ports.proofs.Surveys.{sound_column}
 use Rattle.decision.specs.declared.Decision.{Decision}
 use Rattle.decision.specs.Decision.{other, decided}
 use Rattle.caches.specs.Carried.{Founded, carried}
@@ -69,15 +69,15 @@ carry_done {l} v b b' i d ea ek ep e₁ e₂ =
 module _ {l : Line} (v : Placed l) (b : Bytes) (i : ℕ) (port : i < l.shape.ports) (acc : Access) (m : Mode) {d : Decision}
     (e : d ≡ decided l.shape (model_in l.shape b) i l.number acc m) where
   -- What a decision rests on, where every entry is sound.
-  pub founded : {x : Masks} → x ≡ masks_of l.shape (tables_in l.shape b.tags b.states b.words) l.number → x.sound ≡ true
+  pub founded : column_sound l.shape (tables_in l.shape b.tags b.states b.words) l.number ≡ true
       → Founded l.shape (tables_in l.shape b.tags b.states b.words) l.number d
   unfolding decided evicts_owner seen tables_in model_in
-  founded ex u =
+  founded u =
       let t = model_in l.shape b in
       rw e (record {
         mask = of_holders l.shape _ l.number (other l.shape t i l.number) (λ p. and_r (not (eqb p i)) _) refl;
         command = bus_below _;
-        home = λ h. home_there l.shape t i l.number port (sym (masks_column l.shape b l.number ex) ∙ u)
+        home = λ h. home_there l.shape t i l.number port (sym (sound_column l.shape b l.number) ∙ u)
             (and_r (not (holds l.shape t l.number i)) _ h);
       })
 

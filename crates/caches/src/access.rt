@@ -1,5 +1,6 @@
 // A read, a write or a swap by a port: decided, and then carried out.
 ghost use Rattle.std.specs.Prelude.{◌≡◌, true, ◌<◌};
+ghost use Rattle.model.specs.Tables.{column_sound};
 ghost use Rattle.model.specs.Step.{result as step_result, accessed};
 ghost use Rattle.ports.specs.Bytes.{bytes, model_in, tables_in, Fitting};
 ghost use Rattle.ports.specs.Line.{Placed};
@@ -27,7 +28,7 @@ fn carry_out(
 )
     requires fitting { Fitting line.shape (bytes memory.old tags.old states.old words.old) }
     requires placed { Placed line }
-    requires i_lt_ports { i < line.shape.ports }
+    requires port { i < line.shape.ports }
     requires all_states { AllStates line.shape line.number states.old }
     requires founded { Founded line.shape (tables_in line.shape tags.old states.old words.old) line.number d }
     ensures { model_in line.shape (bytes memory.new tags.new states.new words.new)
@@ -58,8 +59,9 @@ pub fn access_line(
 ) -> Answer
     requires fitting { Fitting line.shape (bytes memory.old tags.old states.old words.old) }
     requires placed { Placed line }
-    requires i_lt_ports { i < line.shape.ports }
-    requires said_value { (said ≡ masks_of line.shape (tables_in line.shape tags.old states.old words.old) line.number) × (said.sound ≡ true) }
+    requires port { i < line.shape.ports }
+    requires said { said ≡ masks_of line.shape (tables_in line.shape tags.old states.old words.old) line.number }
+    requires sound { column_sound line.shape (tables_in line.shape tags.old states.old words.old) line.number ≡ true }
     ensures { step_result result (model_in line.shape (bytes memory.new tags.new states.new words.new))
         ≡ accessed line.shape
         (model_in line.shape (bytes memory.old tags.old states.old words.old))

@@ -1,5 +1,6 @@
 // A device: it reads main memory behind the caches, and the holders of a line hear when it writes.
 ghost use Rattle.std.specs.Prelude.{◌≡◌, true, ◌+◌, ◌*◌, ◌≤◌, length};
+ghost use Rattle.model.specs.Tables.{column_sound};
 ghost use Rattle.model.specs.Step.{result as step_result, accepted, device_written};
 ghost use Rattle.ports.specs.Bytes.{bytes, model_in, tables_in, Fitting};
 ghost use Rattle.ports.specs.Entry.{word_in};
@@ -36,7 +37,8 @@ pub fn device_write(
 ) -> Answer
     requires fitting { Fitting line.shape (bytes memory.old tags.old states.old words.old) }
     requires placed { Placed line }
-    requires said_value { (said ≡ masks_of line.shape (tables_in line.shape tags.old states.old words.old) line.number) × (said.sound ≡ true) }
+    requires said { said ≡ masks_of line.shape (tables_in line.shape tags.old states.old words.old) line.number }
+    requires sound { column_sound line.shape (tables_in line.shape tags.old states.old words.old) line.number ≡ true }
     ensures { step_result result (model_in line.shape (bytes memory.new tags.new states.new words.new))
         ≡ device_written line.shape
         (model_in line.shape (bytes memory.old tags.old states.old words.old))

@@ -2,6 +2,7 @@
 ghost use Rattle.std.specs.Prelude.{◌≡◌, true, cond, ◌<◌, set, length};
 ghost use Rattle.protocol.specs.declared.state.State.TheVariants.{I};
 ghost use Rattle.protocol.specs.State.{code};
+ghost use Rattle.model.specs.Tables.{column_sound};
 ghost use Rattle.model.specs.Step.{result as step_result, flushed};
 ghost use Rattle.ports.specs.Bytes.{bytes, model_in, tables_in, Fitting};
 ghost use Rattle.ports.specs.Line.{Placed};
@@ -12,7 +13,6 @@ use model::answer::Answer;
 use ports::entry;
 use ports::line::Line;
 use ports::survey::Masks;
-use protocol::state;
 use protocol::state::State;
 
 // An entry that may become I.
@@ -21,7 +21,7 @@ fn empty_if(states: &mut [u8], on: bool, k: usize)
     ensures { states.new ≡ cond on (set states.old k (code I)) states.old }
 {
     if on {
-        states[k] = state::state_byte(State::I);
+        states[k] = u8::from(State::I);
     }
 }
 
@@ -37,8 +37,9 @@ pub fn flush_line(
 ) -> Answer
     requires fitting { Fitting line.shape (bytes memory.old tags.now states.old words.now) }
     requires placed { Placed line }
-    requires i_lt_ports { i < line.shape.ports }
-    requires said_value { (said ≡ masks_of line.shape (tables_in line.shape tags.now states.old words.now) line.number) × (said.sound ≡ true) }
+    requires port { i < line.shape.ports }
+    requires said { said ≡ masks_of line.shape (tables_in line.shape tags.now states.old words.now) line.number }
+    requires sound { column_sound line.shape (tables_in line.shape tags.now states.old words.now) line.number ≡ true }
     ensures { step_result result (model_in line.shape (bytes memory.new tags.now states.new words.now))
         ≡ flushed line.shape
         (model_in line.shape (bytes memory.old tags.now states.old words.now))

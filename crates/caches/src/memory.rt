@@ -8,7 +8,7 @@ use ports::entry;
 // A store that may not happen, in a memory of so many lines.
 pub fn store_if(memory: &mut [u8], lines: usize, on: bool, k: usize, w: u64)
     requires memory_len { length memory.old ≡ 8 * lines }
-    requires k_lt_lines { on ≡ true → k < lines }
+    requires there { on ≡ true → k < lines }
     ensures { numbers 8 lines memory.new ≡ store on k w (numbers 8 lines memory.old) }
 {
     if on {

@@ -13,7 +13,6 @@ use Rattle.words.specs.Access.{effect_at}
 use Rattle.words.proofs.Bools.{by_bool}
 use Rattle.protocol.specs.declared.state.Mode.{Mode}
 use Rattle.protocol.specs.declared.state.State.TheVariants.{I}
-use Rattle.protocol.specs.declared.state.Byte.{Byte}
 use Rattle.protocol.specs.declared.rules.Coded.{Coded}
 use Rattle.protocol.specs.State.{code, state_of, or_invalid, is_state, owner}
 use Rattle.protocol.specs.Rules.{rule}
@@ -22,20 +21,19 @@ use Rattle.protocol.proofs.States.{not_valid}
 use Rattle.shape.specs.declared.Shape.{Shape}
 use Rattle.model.specs.declared.answer.Answer.{Answer}
 use Rattle.shape.specs.Shape.{entry_number, entry_of}
-use Rattle.model.specs.Tables.{Model, state_at, home_at, seen, word_at, holds, dirty}
+use Rattle.model.specs.Tables.{Model, state_at, home_at, seen, word_at, holds, dirty, column_sound}
 use Rattle.model.specs.Step.{accepted, word_supplied, shared, word_found, fetches, evicts_owner, access_rule}
 use Rattle.model.specs.Step.{accessed}
 use Rattle.model.proofs.Entries.{seen_tag, seen_here, home_is}
 use Rattle.ports.specs.declared.line.Line.{Line}
 use Rattle.ports.specs.declared.entry.Entry.{Entry}
-use Rattle.ports.specs.declared.survey.Masks.{Masks}
 use Rattle.ports.specs.Bytes.{bytes, model_in, tables_in}
 use Rattle.ports.specs.Entry.{entry_at}
 use Rattle.ports.specs.Line.{Placed}
-use Rattle.ports.specs.Masks.{ports_from, masks_of}
+use Rattle.ports.specs.Masks.{ports_from}
 use Rattle.ports.proofs.Masks.{mask_any}
 use Rattle.ports.proofs.Places.{some, index_is, tag_is, number_is}
-use Rattle.ports.proofs.Surveys.{masks_states}
+use Rattle.ports.proofs.Surveys.{sound_states}
 use Rattle.decision.specs.declared.Decision.{Decision}
 use Rattle.decision.specs.Decision.{other, decided}
 
@@ -72,18 +70,18 @@ module _ {l : Line} (v : Placed l) (g h d : List ℕ) (i : ℕ) (port : i < l.sh
     entry_own = ee ∙ ap (entry_at t') (ek ∙ number_is v i)
 
     -- In a sound column its byte is a state.
-    pub entry_state : {x : Masks} → x ≡ masks_of s t' a → x.sound ≡ true → is_state (state_of e.byte) ≡ true
+    pub entry_state : column_sound s t' a ≡ true → is_state (state_of e.byte) ≡ true
     unfolding entry_at
-    entry_state ex u = rw entry_own (masks_states s t' a ex u i port)
+    entry_state u = rw entry_own (sound_states s t' a u i port)
 
     home_own : {home : ℕ} → home ≡ e.tag * s.sets + l.place.index → home ≡ home_at s t' (entry_of s a i)
     unfolding entry_at
     home_own eh = eh ∙ rw (entry_own, index_is v) (sym (home_is s (some v) t' a i))
 
-    module _ {y : Byte} {o : Bool} (ey : y ≡ state_of e.byte) (eo : o ≡ owner (or_invalid y)) where
+    module _ {o : Bool} (eo : o ≡ owner (or_invalid (state_of e.byte))) where
       owner_own : o ≡ owner (state_at t' (entry_of s a i))
       unfolding entry_at
-      owner_own = eo ∙ rw (ey, entry_own)
+      owner_own = eo ∙ rw entry_own
 
       -- The decision, from what the code has found out: on whether it is a hit, the others' mask and whether the line is dirty; the word
       -- found, its effect, the own state and the rule; and the victim.

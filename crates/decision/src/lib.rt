@@ -4,7 +4,7 @@
 pub mod supply;
 
 ghost use Rattle.std.specs.Prelude.{◌≡◌, true, cond, ◌<◌};
-ghost use Rattle.model.specs.Tables.{owns};
+ghost use Rattle.model.specs.Tables.{owns, column_sound};
 ghost use Rattle.model.specs.Step.{word_supplied};
 ghost use Rattle.ports.specs.Bytes.{bytes, model_in, tables_in, Fitting};
 ghost use Rattle.ports.specs.Line.{Placed};
@@ -48,7 +48,7 @@ fn find_word(
 ) -> u64
     requires fitting { Fitting line.shape (bytes memory.now tags.now states.now words.now) }
     requires placed { Placed line }
-    requires owners_value { owners ≡ ports_from (owns line.shape (tables_in line.shape tags.now states.now words.now) line.number) 0
+    requires owners { owners ≡ ports_from (owns line.shape (tables_in line.shape tags.now states.now words.now) line.number) 0
         line.shape.ports }
     ensures { result ≡ cond hit own (word_supplied line.shape
         (model_in line.shape (bytes memory.now tags.now states.now words.now)) line.number) }
@@ -73,8 +73,9 @@ pub fn decide(
 ) -> Decision
     requires fitting { Fitting line.shape (bytes memory.now tags.now states.now words.now) }
     requires placed { Placed line }
-    requires i_lt_ports { i < line.shape.ports }
-    requires said_value { (said ≡ masks_of line.shape (tables_in line.shape tags.now states.now words.now) line.number) × (said.sound ≡ true) }
+    requires port { i < line.shape.ports }
+    requires said { said ≡ masks_of line.shape (tables_in line.shape tags.now states.now words.now) line.number }
+    requires sound { column_sound line.shape (tables_in line.shape tags.now states.now words.now) line.number ≡ true }
     ensures { result ≡ decided line.shape
         (model_in line.shape (bytes memory.now tags.now states.now words.now))
         i line.number acc m }
@@ -90,10 +91,10 @@ pub fn decide(
     let found = find_word(memory, tags, states, words, line, hit, e.word, said.owners);
     let effect = access::effect_at(acc, found);
     let outcome = effect.outcome;
-    let byte = choose::choose_byte(hit, e.byte, state::state_byte(State::I));
+    let byte = choose::choose(hit, e.byte, u8::from(State::I));
     let r = rules::own_rule(outcome, m, others != 0, dirty, byte);
     let fetches = !hit & !dirty;
-    let evicts = !hit & state::is_owner(state::byte_state(e.byte));
+    let evicts = !hit & state::is_owner(e.byte);
     let home = entry::home_of(e.tag, sets, index);
     Decision {
         entry: Entry {

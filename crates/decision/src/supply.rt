@@ -21,7 +21,7 @@ pub fn supplied_word(
 ) -> u64
     requires fitting { Fitting line.shape (bytes memory.now tags.now states.now words.now) }
     requires placed { Placed line }
-    requires owners_value { owners ≡ ports_from (owns line.shape (tables_in line.shape tags.now states.now words.now) line.number) 0
+    requires owners { owners ≡ ports_from (owns line.shape (tables_in line.shape tags.now states.now words.now) line.number) 0
         line.shape.ports }
     ensures { result ≡ word_supplied line.shape
         (model_in line.shape (bytes memory.now tags.now states.now words.now)) line.number }

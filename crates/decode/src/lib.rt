@@ -2,11 +2,12 @@
 #![tactic(auto)]
 
 ghost use Rattle.std.specs.Prelude.{◌≡◌, cond};
-ghost use Rattle.model.specs.Order.{bits, mode_in_force, checked, call_of, decode};
-ghost use Rattle.decode.specs.Order.{order, access_of, refusal_in};
+ghost use Rattle.model.specs.Order.{bits, mode_in_force, checked, call_of, decode, decoded};
+ghost use Rattle.decode.specs.Order.{order, access_of};
 
-use model::order::{Call, Decoded, KINDS};
+use model::order::{Call, KINDS};
 use protocol::state::Mode;
+use refusals::Refusal;
 use shape::Shape;
 use words::access::Access;
 
@@ -42,32 +43,26 @@ fn mode_in_force(shape: Shape, w: u64, a: usize) -> Mode
 fn access_of(kind: usize, mask: u8, compare: u64, x: u64) -> Access
     ensures { result ≡ access_of kind mask compare x }
 {
-    if kind == 0 {
-        return Access::Read;
+    match kind {
+        0 => Access::Read,
+        1 => Access::Write(mask, x),
+        _ => Access::Swap(mask, x, compare),
     }
-    if kind == 1 {
-        return Access::Write(mask, x);
-    }
-    Access::Swap(mask, x, compare)
 }
 
 #[tactic(auto, using(crate::proofs::Calls::call_access, crate::proofs::Calls::call_flush, crate::proofs::Calls::call_device_read, crate::proofs::Calls::call_device_write))]
 fn call_of(kind: usize, m: Mode, port: usize, mask: u8, compare: u64, x: u64) -> Call
     ensures { result ≡ call_of kind m port mask compare x }
 {
-    if kind < 3 {
-        return Call::ByPort(access_of(kind, mask, compare, x), m, port);
+    match kind {
+        0..=2 => Call::ByPort(access_of(kind, mask, compare, x), m, port),
+        3 => Call::Flush(port),
+        4 => Call::DeviceRead,
+        _ => Call::DeviceWrite(mask, x),
     }
-    if kind == 3 {
-        return Call::Flush(port);
-    }
-    if kind == 4 {
-        return Call::DeviceRead;
-    }
-    Call::DeviceWrite(mask, x)
 }
 
-// Refusals 4 to 7, in checking order, else the call and its line.
+// The kind is checked first, then the port, where the kind has one, the line, and a swap's mask; else the call and its line.
 #[tactic(auto, unfolding(model::specs::Order::checked))]
 fn checked_call(
     shape: Shape,
@@ -76,28 +71,28 @@ fn checked_call(
     mask: u8,
     line: usize,
     call: Call,
-) -> Decoded
-    ensures { result ≡ checked shape kind port mask line call }
+) -> Result<(Call, usize), Refusal>
+    ensures { decoded result ≡ checked shape kind port mask line call }
 {
     if KINDS <= kind {
-        return Decoded::Refused(4);
+        return Err(Refusal::Kind);
     }
     if (kind < 4) & (shape.ports <= port) {
-        return Decoded::Refused(5);
+        return Err(Refusal::Port);
     }
     if shape.lines <= line {
-        return Decoded::Refused(6);
+        return Err(Refusal::Line);
     }
     if (kind == 2) & !((mask == 0x0F) | (mask == 0xF0)) {
-        return Decoded::Refused(7);
+        return Err(Refusal::Mask);
     }
-    Decoded::Asked(call, line)
+    Ok((call, line))
 }
 
 // The fields of the word: 0-2 kind, 3 mode, 4-7 port, 8-15 byte mask, 16-31 line, 32-63 compare value.
 #[tactic(auto, unfolding(model::specs::Order::decode))]
-pub fn decode_order(shape: Shape, w: u64, x: u64) -> Decoded
-    ensures { result ≡ decode shape (order w x) }
+pub fn decode_order(shape: Shape, w: u64, x: u64) -> Result<(Call, usize), Refusal>
+    ensures { decoded result ≡ decode shape (order w x) }
 {
     let kind = kind_of(w);
     let port = (w / 16 % 16) as usize;
@@ -106,14 +101,4 @@ pub fn decode_order(shape: Shape, w: u64, x: u64) -> Decoded
     let compare = w / 4294967296 % 4294967296;
     let call = call_of(kind, mode_in_force(shape, w, line), port, mask, compare, x);
     checked_call(shape, kind, port, mask, line, call)
-}
-
-// The refusal of an order word that asks nothing.
-pub fn refusal_of(d: Decoded) -> u64
-    ensures { result ≡ refusal_in d }
-{
-    match d {
-        Decoded::Asked(_, _) => 0,
-        Decoded::Refused(n) => n,
-    }
 }

@@ -7,11 +7,11 @@ use native.Mathlib.Omega.{arith}
 use lib.Dec.{eqb}
 use lib.ListN.{get_or, get_or-map}
 use borrow.Author.Tests.{leb-true}
+use Rattle.std.specs.Prelude.{Some}
 use Rattle.words.specs.Bools.{implies}
 use Rattle.words.proofs.Bools.{Is, and_l, and_r, and_all, imp}
 use Rattle.protocol.specs.declared.state.State.TheVariants.{I}
 use Rattle.protocol.specs.declared.state.Mode.TheVariants.{Back}
-use Rattle.protocol.specs.declared.state.Byte.TheVariants.{Of}
 use Rattle.protocol.specs.State.{code, state_of, valid, owner, exclusive, is_o, mode_of, same_mode}
 use Rattle.protocol.proofs.States.{state_of-code}
 use Rattle.shape.specs.declared.Shape.{Shape}
@@ -58,7 +58,7 @@ one_mode x y =
     imp {a = is_held x && is_held y} (λ h. rw (held_back x (and_l (is_held x) (is_held y) h), held_back y (and_r (is_held x) (is_held y) h)) refl)
 
 -- The state of the byte that an old byte becomes.
-state_of_new : (x : OldByte) → state_of (byte_from (to_new x)) ≡ Of (in_back (or_invalid x))
+state_of_new : (x : OldByte) → state_of (byte_from (to_new x)) ≡ Some (in_back (or_invalid x))
 unfolding state_of
 state_of_new (Known l) = state_of-code (in_back l)
 state_of_new Unknown = refl
@@ -98,7 +98,7 @@ module _ (s : Shape) (t : OldSet) where
   abbrev pub renewed : Model
   renewed = model t.memory t.tags (map (λ b. byte_from (converted ToNew b)) t.states) t.words
 
-  byte_at : (k : ℕ) → state_of (get_or renewed.states k 0) ≡ Of (in_back (letter_at s t k))
+  byte_at : (k : ℕ) → state_of (get_or renewed.states k 0) ≡ Some (in_back (letter_at s t k))
   unfolding converted letter_of code
   byte_at k =
       ap state_of (get_or-map (λ b. byte_from (converted ToNew b)) t.states k 0) ∙ state_of_new (letter_of (get_or t.states k 0))

@@ -23,9 +23,9 @@ unfolding place_of
 number_is s a p e n = n ∙ rw e
 
 -- What is lent without a refusal is in range, and has the shape's sizes; so a line of it may be looked up.
-pub ready : (s : Shape) (m g h w : List ℕ) {r : ℕ} → r ≡ refusal_of s (length m) (length g) (length h) (length w) → r ≡ 0 → {a : ℕ} → a < s.lines
+pub ready : (s : Shape) (m g h w : List ℕ) → 0 ≡ refusal_of s (length m) (length g) (length h) (length w) → {a : ℕ} → a < s.lines
     → Ready s g h a
 unfolding lent_refusal
-ready s m g h w e z q =
-    let l = lent_facts s (model m g h w) (sym e ∙ z) in
+ready s m g h w e q =
+    let l = lent_facts s (model m g h w) (sym e) in
     record { range = l.range; below = q; tags_fit = l.sizes.tags; states_fit = l.sizes.states }

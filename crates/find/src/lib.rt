@@ -1,40 +1,40 @@
 // Where a line's word stands, and the view of that word.
 #![tactic(auto)]
 
-ghost use Rattle.std.specs.Prelude.{◌≡◌, [], ◌∷◌, ◌<◌, get_or, length};
+ghost use Rattle.std.specs.Prelude.{◌≡◌, [], ◌∷◌, ◌<◌, get_or, length, Ok};
 ghost use Rattle.shape.specs.Shape.{entry_of};
 ghost use Rattle.model.specs.Below.{lowest};
 ghost use Rattle.model.specs.Tables.{model, sound, holds, column_sound};
-ghost use Rattle.model.specs.Find.{holder_or, find, view};
+ghost use Rattle.model.specs.Find.{found, holder_or, find, view};
 ghost use Rattle.find.specs.Ready.{Ready};
 
-use model::found::Found;
 use protocol::state;
-use shape::Shape;
+use refusals::Refusal;
+use shape::{Shape, Sizes};
 
 // Port p's entry for line a is sound: its byte is a state, and it is I or has a home line below lines.
 #[tactic(auto, using(crate::proofs::Links::index_below, crate::proofs::Holders::sound_is))]
 fn sound_at(shape: Shape, tags: &[u32], states: &[u8], a: usize, p: usize) -> bool
     requires ready { Ready shape tags.now states.now a }
-    requires p_lt_ports { p < shape.ports }
+    requires there { p < shape.ports }
     ensures { result ≡ sound shape (model [] tags.now states.now []) (entry_of shape a p) }
 {
     let at = shape.place(a);
     let k = shape.entry_number(p, at.index);
-    let s = state::byte_state(states[k]);
-    state::is_state(s) & (!state::is_valid(s) | (tags[k] < at.limit))
+    let b = states[k];
+    state::is_state(b) & (!state::is_valid(b) | (tags[k] < at.limit))
 }
 
 // Port p holds line a.
 #[tactic(auto, using(crate::proofs::Links::index_below))]
 fn holds_at(shape: Shape, tags: &[u32], states: &[u8], a: usize, p: usize) -> bool
     requires ready { Ready shape tags.now states.now a }
-    requires p_lt_ports { p < shape.ports }
+    requires there { p < shape.ports }
     ensures { result ≡ holds shape (model [] tags.now states.now []) a p }
 {
     let at = shape.place(a);
     let k = shape.entry_number(p, at.index);
-    (tags[k] == at.tag) & state::is_valid(state::byte_state(states[k]))
+    (tags[k] == at.tag) & state::is_valid(states[k])
 }
 
 // Every port's entry at the index of line a is sound.
@@ -42,35 +42,29 @@ fn column_sound(shape: Shape, tags: &[u32], states: &[u8], a: usize) -> bool
     requires { Ready shape tags.now states.now a }
     ensures { result ≡ column_sound shape (model [] tags.now states.now []) a }
 {
-    let ports = shape.ports;
-    let mut q = 0;
-    while q < ports {
-        if !sound_at(shape, tags, states, a, q) {
+    for p in 0..shape.ports {
+        if !sound_at(shape, tags, states, a, p) {
             return false;
         }
-        q += 1;
     }
     true
 }
 
-// The lowest-numbered port that holds line a, or memory.
-fn first_holder(shape: Shape, tags: &[u32], states: &[u8], a: usize) -> Found
+// The lowest-numbered port that holds line a, if any.
+fn first_holder(shape: Shape, tags: &[u32], states: &[u8], a: usize) -> Option<usize>
     requires { Ready shape tags.now states.now a }
-    ensures { result ≡ holder_or (lowest (holds shape (model [] tags.now states.now []) a) shape.ports) }
+    ensures { found (Ok result) ≡ holder_or (lowest (holds shape (model [] tags.now states.now []) a) shape.ports) }
 {
-    let ports = shape.ports;
-    let mut p = 0;
-    while p < ports {
+    for p in 0..shape.ports {
         if holds_at(shape, tags, states, a, p) {
-            return Found::Holder(p);
+            return Some(p);
         }
-        p += 1;
     }
-    Found::Memory
+    None
 }
 
-// Refusal 2, 3, 12, 6 or 8, in checking order, else the lowest-numbered holder of line a, else memory.
-#[tactic(auto, using(crate::proofs::Finds::find_misfit, crate::proofs::Finds::find_far, crate::proofs::Finds::find_unsound, crate::proofs::Finds::find_first))]
+// Where the word of line a stands: at the lowest-numbered port that holds the line, or in memory, where there is none. What is lent is checked
+// first, then the line, then the entries at its index.
 pub fn find_line(
     shape: Shape,
     memory: &[u64],
@@ -78,20 +72,22 @@ pub fn find_line(
     states: &[u8],
     data: &[u64],
     a: usize,
-) -> Found
-    ensures { result ≡ find shape (model memory.now tags.now states.now «data».now) a }
+) -> Result<Option<usize>, Refusal>
+    ensures { found result ≡ find shape (model memory.now tags.now states.now «data».now) a }
 {
-    let refusal = shape.refusal(memory.len(), tags.len(), states.len(), data.len());
-    if refusal != 0 {
-        return Found::Refused(refusal);
-    }
+    shape.check(Sizes {
+        memory: memory.len(),
+        tags: tags.len(),
+        states: states.len(),
+        data: data.len(),
+    })?;
     if shape.lines <= a {
-        return Found::Refused(6);
+        return Err(Refusal::Line);
     }
     if !column_sound(shape, tags, states, a) {
-        return Found::Refused(8);
+        return Err(Refusal::Entry);
     }
-    first_holder(shape, tags, states, a)
+    Ok(first_holder(shape, tags, states, a))
 }
 
 // One word of a slice.
@@ -113,14 +109,13 @@ pub fn view_line<'a>(
 ) -> &'a [u64]
     ensures { result.now ≡ view shape (model memory.now tags.now states.now «data».now) a }
 {
-    let found = find_line(shape, memory, tags, states, data, a);
-    match found {
-        Found::Refused(_) => &memory[0..0],
-        Found::Holder(p) => {
-            let at = shape.place(a);
-            let k = shape.entry_number(p, at.index);
-            one_word(data, k)
-        }
-        Found::Memory => one_word(memory, a),
-    }
+    let Ok(holder) = find_line(shape, memory, tags, states, data, a) else {
+        return &memory[0..0];
+    };
+    let Some(p) = holder else {
+        return one_word(memory, a);
+    };
+    let at = shape.place(a);
+    let k = shape.entry_number(p, at.index);
+    one_word(data, k)
 }

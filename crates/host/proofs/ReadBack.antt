@@ -29,8 +29,7 @@ use Rattle.answers.proofs.Answers.{answer_back}
 use Rattle.ports.specs.Bytes.{model_in}
 use Rattle.model.specs.declared.order.Call.{Call}
 use Rattle.model.specs.declared.order.Call.TheVariants.{ByPort, Flush, DeviceRead, DeviceWrite}
-use Rattle.model.specs.declared.order.Decoded.{Decoded}
-use Rattle.model.specs.declared.order.Decoded.TheVariants.{Asked, Refused}
+use Rattle.model.specs.Order.{Decoded, Asked, Refused}
 use Rattle.model.specs.Below.{Lowest, none, number as the_number, lowest, at_or}
 use Rattle.model.specs.Order.{Order, decode, looks}
 use Rattle.model.specs.Tables.{Model, lent_refusal, seen, word_at, memory_at, holds, owns, column_sound}

@@ -16,7 +16,7 @@ use Rattle.shape.specs.declared.Shape.{Shape}
 use Rattle.shape.specs.Range.{IsIn}
 use Rattle.model.specs.declared.answer.Answer.{Answer}
 use Rattle.model.specs.declared.order.Call.TheVariants.{DeviceRead, DeviceWrite}
-use Rattle.model.specs.declared.order.Decoded.TheVariants.{Asked}
+use Rattle.model.specs.Order.{Asked}
 use Rattle.model.specs.Order.{Order, decode}
 use Rattle.model.specs.Tables.{Model, lent_refusal}
 use Rattle.model.specs.Step.{Result, accepted, called, perform, step}

@@ -8,7 +8,7 @@ use Rattle.ports.specs.Bytes.{Bytes, model_in}
 use Rattle.shape.specs.declared.Shape.{Shape}
 use Rattle.shape.specs.Range.{IsIn}
 use Rattle.model.specs.declared.order.Call.TheVariants.{DeviceRead, DeviceWrite}
-use Rattle.model.specs.declared.order.Decoded.TheVariants.{Asked}
+use Rattle.model.specs.Order.{Asked}
 use Rattle.model.specs.Order.{decode}
 use Rattle.model.specs.Step.{accepted}
 use Rattle.model.specs.Flat.{Flat, FlatAnswer, word_in, mark_in, flat_step, flat_start}

@@ -4,8 +4,8 @@ use mathlib.Core.Path.{◌≡◌, refl, sym, ap, ◌∙◌}
 use mathlib.Core.Bool.{false, false≢true}
 use native.Mathlib.Omega.{arith}
 use borrow.Author.Tests.{ne_eqb}
-use Rattle.protocol.specs.declared.state.Byte.{Byte}
-use Rattle.protocol.specs.declared.state.Byte.TheVariants.{Of, No}
+use Rattle.std.specs.Prelude.{Option, Some, None}
+use Rattle.protocol.specs.declared.state.State.{State}
 use Rattle.protocol.specs.State.{code, state_of, is_state}
 use Rattle.protocol.proofs.States.{byte_cases}
 use Rattle.letters.specs.declared.OldByte.TheVariants.{Unknown}
@@ -65,9 +65,9 @@ old_not_through =
     old_cases (λ b. is_in_through (converted ToNew b) ≡ false) refl refl refl refl refl (λ b h. rw (no_letter b h) refl)
 
 -- A byte that is no state becomes none.
-no_old_byte : (x : Byte) → is_state x ≡ false → to_old x ≡ NoState
-no_old_byte (Of s) h = absurd (false≢true (sym h))
-no_old_byte No h = refl
+no_old_byte : (x : Option State) → is_state x ≡ false → to_old x ≡ NoState
+no_old_byte (Some s) h = absurd (false≢true (sym h))
+no_old_byte None h = refl
 
 pub every_byte : EveryByte
 unfolding converted letter_of state_of code

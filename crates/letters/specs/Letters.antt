@@ -1,11 +1,10 @@
 -- The five letters of the old edition, their bytes, and what becomes of a state byte on the way to the new edition and on the way back.
+use Rattle.std.specs.Prelude.{Option, Some, None}
 use Rattle.std.specs.Prelude.{ℕ, Bool, true, false, cond, eqb}
 use Rattle.protocol.specs.declared.state.Mode.{Mode}
 use Rattle.protocol.specs.declared.state.Mode.TheVariants.{Through, Back}
 use Rattle.protocol.specs.declared.state.State.{State}
 use Rattle.protocol.specs.declared.state.State.TheVariants.{I, S, E, O, M}
-use Rattle.protocol.specs.declared.state.Byte.{Byte}
-use Rattle.protocol.specs.declared.state.Byte.TheVariants.{Of, No}
 use Rattle.protocol.specs.State.{code, state_of}
 use Rattle.letters.specs.declared.Letter.{Letter}
 use Rattle.letters.specs.declared.Letter.TheVariants.{Invalid, Shared, Exclusive, Owned, Modified}
@@ -60,9 +59,9 @@ lettered O = To (letter_code Owned)
 lettered M = To (letter_code Modified)
 
 -- What becomes of a new byte in the old edition.
-abbrev pub to_old : Byte → Converted
-to_old (Of s) = lettered s
-to_old No = NoState
+abbrev pub to_old : Option State → Converted
+to_old (Some s) = lettered s
+to_old None = NoState
 
 -- What becomes of a state byte, by the way that it goes.
 unfoldable pub converted : Way → ℕ → Converted

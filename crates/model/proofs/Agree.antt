@@ -23,8 +23,7 @@ use Rattle.protocol.proofs.Kept.{flush_own, flush_bus, flush_stores, quiet_same,
 use Rattle.shape.specs.declared.Shape.{Shape}
 use Rattle.model.specs.declared.order.Call.{Call}
 use Rattle.model.specs.declared.order.Call.TheVariants.{ByPort, Flush, DeviceRead, DeviceWrite}
-use Rattle.model.specs.declared.order.Decoded.{Decoded}
-use Rattle.model.specs.declared.order.Decoded.TheVariants.{Asked, Refused}
+use Rattle.model.specs.Order.{Decoded, Asked, Refused}
 use Rattle.shape.specs.Shape.{entry_of}
 use Rattle.model.specs.Order.{Order, decode, looks, There}
 use Rattle.model.specs.Tables.{Model, sound, seen, word_at, memory_at, holds, owns, dirty, column_sound}

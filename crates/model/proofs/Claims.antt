@@ -19,16 +19,15 @@ use Rattle.words.proofs.Effects.{read-effect, swap_succeeds, swap_fails}
 use Rattle.shape.specs.declared.Shape.{Shape}
 use Rattle.model.specs.declared.order.Call.{Call}
 use Rattle.model.specs.declared.order.Call.TheVariants.{ByPort, Flush, DeviceRead, DeviceWrite}
-use Rattle.model.specs.declared.order.Decoded.{Decoded}
-use Rattle.model.specs.declared.order.Decoded.TheVariants.{Asked, Refused}
+use Rattle.model.specs.Order.{Decoded, Asked, Refused}
 use Rattle.model.specs.Order.{Order, kinds, kind_of, checked, decode, looks}
 use Rattle.shape.specs.Shape.{refusal_of}
 use Rattle.model.specs.Tables.{Model, lent_refusal, column_sound, seen, holds, dirty}
 use Rattle.model.specs.Step.{Result, refuse, word_found, fetches, evicts_owner, access_rule, accessed, flushed, device_written}
 use Rattle.model.specs.Step.{called, perform, step}
 use Rattle.model.specs.Claims.{FewAccesses, SwappedOnce, FailedSwapReads, AcceptedKind, NeverNine, RefusedChangesNothing, FindSays, AuditSays}
-use Rattle.model.specs.declared.found.Found.{Found}
-use Rattle.model.specs.declared.found.Found.TheVariants as finds
+use Rattle.model.specs.Find.{Found}
+use Rattle.model.specs.Find as finds
 use Rattle.model.specs.Below.{Lowest, none, number, lowest}
 use Rattle.model.specs.Find.{holder_or, find, find_refusal, found_refusal}
 use Rattle.shape.proofs.Refusals.{not_nine}

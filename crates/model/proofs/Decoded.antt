@@ -8,8 +8,7 @@ use Rattle.protocol.specs.declared.state.Mode.{Mode}
 use Rattle.words.proofs.Bools.{Is, by_cond}
 use Rattle.shape.specs.declared.Shape.{Shape}
 use Rattle.model.specs.declared.order.Call.{Call}
-use Rattle.model.specs.declared.order.Decoded.{Decoded}
-use Rattle.model.specs.declared.order.Decoded.TheVariants.{Asked, Refused}
+use Rattle.model.specs.Order.{Decoded, Asked, Refused}
 use Rattle.model.specs.Order.{Order, kinds, has_port, checked, call_of, decode, PortThere, There}
 
 abbrev pub Sound : Shape → Decoded → Type 0

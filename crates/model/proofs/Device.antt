@@ -21,8 +21,7 @@ use Rattle.words.proofs.Bools.{Is, and_l, and_r, and_none}
 use Rattle.words.proofs.Effects.{write-effect, unwritten}
 use Rattle.shape.specs.declared.Shape.{Shape}
 use Rattle.model.specs.declared.order.Call.TheVariants.{ByPort, Flush, DeviceRead, DeviceWrite}
-use Rattle.model.specs.declared.order.Decoded.{Decoded}
-use Rattle.model.specs.declared.order.Decoded.TheVariants.{Asked, Refused}
+use Rattle.model.specs.Order.{Decoded, Asked, Refused}
 use Rattle.model.specs.Order.{Order, decode}
 use Rattle.model.specs.Tables.{Model, lent_refusal, memory_at}
 use Rattle.model.specs.Step.{called, perform, step}

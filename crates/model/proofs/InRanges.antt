@@ -17,8 +17,7 @@ use Rattle.words.proofs.Bools.{and_r, by_cond}
 use Rattle.shape.specs.declared.Shape.{Shape}
 use Rattle.model.specs.declared.order.Call.{Call}
 use Rattle.model.specs.declared.order.Call.TheVariants.{ByPort}
-use Rattle.model.specs.declared.order.Decoded.{Decoded}
-use Rattle.model.specs.declared.order.Decoded.TheVariants.{Asked, Refused}
+use Rattle.model.specs.Order.{Decoded, Asked, Refused}
 use Rattle.shape.specs.Range.{range, ends_by, IsIn}
 use Rattle.shape.specs.Shape.{without_ranges, ranges_end}
 use Rattle.model.specs.Order.{Order, bits, kinds, has_port, mode_in_force, checked, call_of, decode}

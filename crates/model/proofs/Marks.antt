@@ -21,8 +21,7 @@ use Rattle.words.proofs.Bools.{Is, by_bool}
 use Rattle.words.proofs.Effects.{read-effect, write-effect, swap_succeeds, swap_fails, write-writes}
 use Rattle.shape.specs.declared.Shape.{Shape}
 use Rattle.model.specs.declared.order.Call.TheVariants.{ByPort, Flush, DeviceRead, DeviceWrite}
-use Rattle.model.specs.declared.order.Decoded.{Decoded}
-use Rattle.model.specs.declared.order.Decoded.TheVariants.{Asked, Refused}
+use Rattle.model.specs.Order.{Decoded, Asked, Refused}
 use Rattle.model.specs.Order.{Order, decode}
 use Rattle.model.specs.Flat.{Flat, FlatResult, word_in, mark_in, flat_access, flat_perform, flat_step}
 use Rattle.model.specs.Marks.{Event, sets, clears, neither, event_of, events_of, flat_run, SetSince, start_event, MarkSays}

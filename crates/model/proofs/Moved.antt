@@ -20,7 +20,7 @@ use Rattle.words.specs.Access.{effect_at, writes}
 use Rattle.words.proofs.Bools.{Is, by_bool}
 use Rattle.words.proofs.Effects.{read-effect, write-effect, swap_succeeds, swap_fails, write-writes}
 use Rattle.model.specs.declared.order.Call.TheVariants.{DeviceWrite}
-use Rattle.model.specs.declared.order.Decoded.TheVariants.{Asked}
+use Rattle.model.specs.Order.{Asked}
 use Rattle.model.specs.Flat.{Flat, FlatAnswer, FlatResult, flat_answer, word_in, mark_in, flat_read, flat_write, flat_access, flat_perform}
 
 -- The mark after an access with an outcome in a mode: set by a write in write back, cleared in write through, else as it was.

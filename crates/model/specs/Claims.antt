@@ -4,7 +4,7 @@ use Rattle.protocol.specs.declared.state.Mode.{Mode}
 use Rattle.words.specs.declared.access.Access.TheVariants.{Read, Swap}
 use Rattle.shape.specs.declared.Shape.{Shape}
 use Rattle.model.specs.declared.order.Call.TheVariants.{ByPort}
-use Rattle.model.specs.declared.order.Decoded.TheVariants.{Asked}
+use Rattle.model.specs.Order.{Asked}
 use Rattle.model.specs.Order.{Order, kinds, kind_of, decode}
 use Rattle.model.specs.Tables.{Model}
 use Rattle.model.specs.Step.{step, refuse}

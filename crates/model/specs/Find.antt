@@ -1,10 +1,22 @@
 -- Where a line's word stands, and what the view shows of it.
-use Rattle.std.specs.Prelude.{ℕ, cond, List, [], ◌∷◌, eqb, leb}
+use Rattle.std.specs.Prelude.{ℕ, Option, Some, None, Result, Ok, Err, cond, List, [], ◌∷◌, eqb, leb}
 use Rattle.shape.specs.declared.Shape.{Shape}
-use Rattle.model.specs.declared.found.Found.{Found}
-use Rattle.model.specs.declared.found.Found.TheVariants.{Refused, Holder, Memory}
+use Rattle.refusals.specs.declared.Refusal.{Refusal}
+use Rattle.refusals.specs.Numbers as refusals
 use Rattle.model.specs.Below.{Lowest, none, number, lowest}
 use Rattle.model.specs.Tables.{Model, lent_refusal, word_at, memory_at, holds, column_sound}
+
+-- Where a line's word stands: the lowest-numbered port that holds the line, or main memory; or the number of the refusal.
+pub data Found : Type 0 where
+  Refused : ℕ → Found
+  Holder : ℕ → Found
+  Memory : Found
+
+-- The code's answer as such: the port, or none where the word stands in memory.
+abbrev pub found : Result (Option ℕ) Refusal → Found
+found (Ok (Some p)) = Holder p
+found (Ok None) = Memory
+found (Err r) = Refused (refusals.number r)
 
 abbrev pub holder_or : Lowest → Found
 holder_or none = Memory

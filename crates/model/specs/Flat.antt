@@ -9,8 +9,7 @@ use Rattle.protocol.specs.State.{is_back}
 use Rattle.words.specs.Word.{merge, half}
 use Rattle.shape.specs.declared.Shape.{Shape}
 use Rattle.model.specs.declared.order.Call.TheVariants.{ByPort, Flush, DeviceRead, DeviceWrite}
-use Rattle.model.specs.declared.order.Decoded.{Decoded}
-use Rattle.model.specs.declared.order.Decoded.TheVariants.{Asked, Refused}
+use Rattle.model.specs.Order.{Decoded, Asked, Refused}
 use Rattle.model.specs.Order.{Order, decode}
 
 -- The words F, and the marks: true for 1.

@@ -7,8 +7,7 @@ use Rattle.words.specs.Word.{merge}
 use Rattle.words.specs.Access.{is_write}
 use Rattle.shape.specs.declared.Shape.{Shape}
 use Rattle.model.specs.declared.order.Call.TheVariants.{ByPort, Flush, DeviceRead, DeviceWrite}
-use Rattle.model.specs.declared.order.Decoded.{Decoded}
-use Rattle.model.specs.declared.order.Decoded.TheVariants.{Asked, Refused}
+use Rattle.model.specs.Order.{Decoded, Asked, Refused}
 use Rattle.model.specs.Order.{Order, decode}
 use Rattle.model.specs.Tables.{Model, lent_refusal}
 use Rattle.model.specs.Step.{accepted, step}

@@ -1,14 +1,24 @@
 -- An order: a word and an operand, and what the word says.
-use Rattle.std.specs.Prelude.{ℕ, ◌/◌, ◌%◌, ◌^◌, ◌<◌, Bool, true, false, cond, ◌&&◌, ◌||◌, not, eqb, ltb, leb}
+use Rattle.std.specs.Prelude.{ℕ, Result, Ok, Err, ◌/◌, ◌%◌, ◌^◌, ◌<◌, Bool, true, false, cond, ◌&&◌, ◌||◌, not, eqb, ltb, leb}
 use Rattle.protocol.specs.declared.state.Mode.{Mode}
 use Rattle.protocol.specs.declared.state.Mode.TheVariants.{Through, Back}
 use Rattle.words.specs.declared.access.Access.TheVariants.{Read, Write, Swap}
+use Rattle.refusals.specs.declared.Refusal.{Refusal}
+use Rattle.refusals.specs.Numbers.{number}
 use Rattle.shape.specs.declared.Shape.{Shape}
 use Rattle.model.specs.declared.order.Call.{Call}
 use Rattle.model.specs.declared.order.Call.TheVariants.{ByPort, Flush, DeviceRead, DeviceWrite}
-use Rattle.model.specs.declared.order.Decoded.{Decoded}
-use Rattle.model.specs.declared.order.Decoded.TheVariants.{Asked, Refused}
 use Rattle.shape.specs.Range.{inside}
+
+-- An order word and its operand, taken apart: the call and its line, or the number of the refusal.
+pub data Decoded : Type 0 where
+  Asked : Call → ℕ → Decoded
+  Refused : ℕ → Decoded
+
+-- The code's answer as such.
+abbrev pub decoded : Result (Call × ℕ) Refusal → Decoded
+decoded (Ok p) = Asked p.0 p.1
+decoded (Err r) = Refused (number r)
 
 pub record Order : Type 0 where
   pub word : ℕ

@@ -4,12 +4,12 @@ use Rattle.std.specs.Prelude.{ℕ, ◌^◌, Bool, true, false, ◌≡◌, List, 
 use Rattle.protocol.specs.declared.state.Mode.TheVariants.{Through, Back}
 use Rattle.shape.specs.declared.range.Range.{Range}
 use Rattle.shape.specs.declared.Shape.{Shape}
-use Rattle.model.specs.declared.found.Found.TheVariants.{Refused}
 use Rattle.shape.specs.Range.{range}
 use Rattle.shape.specs.Shape.{shape_of}
 use Rattle.model.specs.Order.{Order}
 use Rattle.model.specs.Tables.{Model, model, lent_refusal}
 use Rattle.model.specs.Step.{step}
+use Rattle.model.specs.Find.{Refused}
 use Rattle.model.specs.Find.{find}
 use Rattle.model.specs.Flat.{mark_in, flat_start}
 use Rattle.model.specs.Marks.{flat_run}

@@ -5,8 +5,7 @@ use Rattle.protocol.specs.declared.state.Mode.TheVariants.{Through, Back}
 use Rattle.shape.specs.declared.Shape.{Shape}
 use Rattle.model.specs.declared.order.Call.{Call}
 use Rattle.model.specs.declared.order.Call.TheVariants.{ByPort, Flush, DeviceRead, DeviceWrite}
-use Rattle.model.specs.declared.order.Decoded.{Decoded}
-use Rattle.model.specs.declared.order.Decoded.TheVariants.{Asked, Refused}
+use Rattle.model.specs.Order.{Decoded, Asked, Refused}
 use Rattle.shape.specs.Range.{IsIn}
 use Rattle.shape.specs.Shape.{without_ranges}
 use Rattle.model.specs.Order.{Order, bits, decode}

@@ -1,4 +1,7 @@
 -- The step: one order on main memory and the tables.
+use Rattle.std.specs.Prelude.{Result as Outcome, Ok, Err}
+use Rattle.refusals.specs.declared.Refusal.{Refusal}
+use Rattle.refusals.specs.Numbers.{number}
 use Rattle.std.specs.Prelude.{ℕ, zero, suc, ◌+◌, Bool, cond, ◌&&◌, not, List, get_or, set, eqb}
 use Rattle.protocol.specs.declared.state.Mode.{Mode}
 use Rattle.words.specs.declared.access.Access.{Access}
@@ -14,8 +17,7 @@ use Rattle.words.specs.Bools.{bit}
 use Rattle.shape.specs.declared.Shape.{Shape}
 use Rattle.model.specs.declared.order.Call.{Call}
 use Rattle.model.specs.declared.order.Call.TheVariants.{ByPort, Flush, DeviceRead, DeviceWrite}
-use Rattle.model.specs.declared.order.Decoded.{Decoded}
-use Rattle.model.specs.declared.order.Decoded.TheVariants.{Asked, Refused}
+use Rattle.model.specs.Order.{Decoded, Asked, Refused}
 use Rattle.model.specs.declared.answer.Answer.{Answer}
 use Rattle.shape.specs.Shape.{tag_of, entry_of}
 use Rattle.model.specs.Order.{Order, looks, decode}
@@ -36,6 +38,11 @@ accepted v s r w = record { refusal = 0; value = v; swapped = s; reads = r; writ
 -- A refused order answers its number and four zeros, and changes nothing.
 abbrev pub refused : ℕ → Answer
 refused n = record { refusal = n; value = 0; swapped = 0; reads = 0; writes = 0 }
+
+-- The code's answer as such: a refusal by its number.
+abbrev pub answer_of : Outcome Answer Refusal → Answer
+answer_of (Ok x) = x
+answer_of (Err r) = refused (number r)
 
 abbrev pub refuse : ℕ → Model → Result
 refuse n t = result (refused n) t

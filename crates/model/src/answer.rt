@@ -1,7 +1,7 @@
 // What a step answers.
 
 // The five numbers: the refusal, 0 if none; the value; 1 where a swap succeeded; the memory words fetched and stored.
-#[derive(Clone, Copy)]
+#[derive(Clone, Copy, Debug, PartialEq, Eq)]
 pub struct Answer {
     pub refusal: u64,
     pub value: u64,

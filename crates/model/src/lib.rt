@@ -2,5 +2,4 @@
 #![tactic(auto)]
 
 pub mod answer;
-pub mod found;
 pub mod order;

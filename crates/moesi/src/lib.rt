@@ -6,7 +6,6 @@
 #![tactic(auto)]
 
 ghost use Rattle.std.specs.Prelude.{◌≡◌, []};
-ghost use Rattle.words.specs.Bools.{bit};
 ghost use Rattle.shape.specs.Shape.{shape_of, unranged};
 ghost use Rattle.decode.specs.Order.{order};
 ghost use Rattle.ports.specs.Bytes.{bytes};
@@ -19,7 +18,6 @@ ghost use Rattle.edition.specs.Convert.{tables, conversion, convert};
 use counters::lent;
 use letters::Way;
 use shape::Shape;
-use shape::range::Range;
 
 // One order: its five numbers go to answer, those of a refused order too. An answer of another length than 40 bytes is left alone.
 pub fn moesi_step(
@@ -43,32 +41,25 @@ pub fn moesi_step(
         ≡ host_step (shape_of ports sets lines scratch_first scratch_count device_first device_count) (order word operand)
         (bytes memory.old tags.old states.old «data».old) answer.old) }
 {
-    let shape = Shape {
+    let shape = Shape::new(
         ports,
         sets,
         lines,
-        scratch: Range {
-            first: scratch_first,
-            count: scratch_count,
-        },
-        device: Range {
-            first: device_first,
-            count: device_count,
-        },
-    };
-    let out = answer.len() == 40;
-    let n = lengths::refusal_by(
-        shape,
-        memory.len(),
-        tags.len(),
-        states.len(),
-        data.len(),
-        out,
+        scratch_first,
+        scratch_count,
+        device_first,
+        device_count,
     );
+    let n = refusals::number_of(lengths::check(
+        shape,
+        memory,
+        tags,
+        states,
+        data,
+        answer.len() == 40,
+    ));
     if n != 0 {
-        if out {
-            answers::put_answer(answer, n, 0, 0, 0, 0);
-        }
+        host::put_refusal(answer, n);
         return n;
     }
     let a = step::step_order(shape, memory, tags, states, data, word, operand);
@@ -104,27 +95,16 @@ pub fn moesi_step_totals(
         totals.old) }
 {
     if totals.len() != lent::RECORD_BYTES {
-        let shape = Shape {
+        let shape = Shape::new(
             ports,
             sets,
             lines,
-            scratch: Range {
-                first: scratch_first,
-                count: scratch_count,
-            },
-            device: Range {
-                first: device_first,
-                count: device_count,
-            },
-        };
-        let n = lengths::refusal_by(
-            shape,
-            memory.len(),
-            tags.len(),
-            states.len(),
-            data.len(),
-            false,
+            scratch_first,
+            scratch_count,
+            device_first,
+            device_count,
         );
+        let n = refusals::number_of(lengths::check(shape, memory, tags, states, data, false));
         host::put_refusal(answer, n);
         return n;
     }
@@ -172,39 +152,22 @@ pub fn moesi_fresh(
         ≡ host_fresh (shape_of ports sets lines scratch_first scratch_count device_first device_count)
         (bytes memory.now tags.old states.old «data».old)) }
 {
-    let shape = Shape {
+    let shape = Shape::new(
         ports,
         sets,
         lines,
-        scratch: Range {
-            first: scratch_first,
-            count: scratch_count,
-        },
-        device: Range {
-            first: device_first,
-            count: device_count,
-        },
-    };
-    let n = lengths::refusal_by(
-        shape,
-        memory.len(),
-        tags.len(),
-        states.len(),
-        data.len(),
-        true,
+        scratch_first,
+        scratch_count,
+        device_first,
+        device_count,
     );
+    let n = refusals::number_of(lengths::check(shape, memory, tags, states, data, true));
     if n == 0 {
         fresh::clear_bytes(tags);
         fresh::clear_bytes(states);
         fresh::clear_bytes(data);
     }
     n
-}
-
-fn yes_or_no(b: bool) -> u8
-    ensures { result ≡ bit b }
-{
-    if b { 1 } else { 0 }
 }
 
 // The audit: 1 for yes goes to verdict, else 0; a refused audit says no.
@@ -228,35 +191,24 @@ pub fn moesi_audit(
         ≡ host_audit (shape_of ports sets lines scratch_first scratch_count device_first device_count)
         (bytes memory.now tags.now states.now «data».now) verdict.old) }
 {
-    let shape = Shape {
+    let shape = Shape::new(
         ports,
         sets,
         lines,
-        scratch: Range {
-            first: scratch_first,
-            count: scratch_count,
-        },
-        device: Range {
-            first: device_first,
-            count: device_count,
-        },
-    };
-    let out = verdict.len() == 1;
-    let n = lengths::refusal_by(
-        shape,
-        memory.len(),
-        tags.len(),
-        states.len(),
-        data.len(),
-        out,
+        scratch_first,
+        scratch_count,
+        device_first,
+        device_count,
     );
+    let out = verdict.len() == 1;
+    let n = refusals::number_of(lengths::check(shape, memory, tags, states, data, out));
     if n != 0 {
         if out {
             verdict[0] = 0;
         }
         return n;
     }
-    verdict[0] = yes_or_no(audit::audit_tables(shape, memory, tags, states, data));
+    verdict[0] = u8::from(audit::audit_tables(shape, memory, tags, states, data));
     0
 }
 

@@ -12,8 +12,14 @@ use lib.Arith.{digits_div, digits_mod}
 use lib.Bits.{bit_and}
 use lib.Pow.{pow_mono}
 use borrow.Author.Tests.{eqb-true, eqb-false, eq-eqb, lt-ltb, ltb-true, ltb-false, ne_eqb, not-true, not-false}
-use Rattle.protocol.specs.declared.state.Byte.{Byte}
-use Rattle.protocol.specs.declared.state.Byte.TheVariants.{Of, No}
+use Rattle.std.specs.Prelude.{Option, Some, None, Result, Ok, Err}
+use Rattle.std.specs.Option.{ok_or}
+use Rattle.std.specs.Result.{result_map_both}
+use Rattle.refusals.specs.declared.Refusal.{Refusal}
+use Rattle.ports.specs.declared.survey.Look.{Look}
+use Rattle.ports.specs.Line.{line_of}
+use Rattle.refusals.specs.declared.Refusal.TheVariants.{Entry}
+use Rattle.protocol.specs.declared.state.State.{State}
 use Rattle.protocol.specs.State.{state_of, state_row, or_invalid, is_state, valid}
 use Rattle.protocol.proofs.States.{state_row_is, owner-valid}
 use Rattle.words.specs.Bools.{bit}
@@ -31,7 +37,7 @@ use Rattle.ports.specs.declared.line.Line.{Line}
 use Rattle.ports.specs.declared.survey.Masks.{Masks}
 use Rattle.ports.specs.Bytes.{Bytes, model_in, tables_in}
 use Rattle.ports.specs.Line.{Placed}
-use Rattle.ports.specs.Masks.{ports_from, AllStates, lanes, says_of, look_lanes, masks_of}
+use Rattle.ports.specs.Masks.{ports_from, AllStates, lanes, says_of, look_lanes, masks_of, sound_masks, look_of}
 use Rattle.ports.proofs.Places.{some, few, tag_is, limit_at, Running, running_first, running_next}
 use Rattle.ports.proofs.Masks.{bit_le, bit_is, mask_lt, mask_next, mask_bit, mask_any, mask_within}
 use Rattle.ports.proofs.Rotations.{rotated_by, rotated_room, rotated_once, rotated_back}
@@ -217,13 +223,13 @@ module _ (l : Line) (v : Placed l) (g h d : List ℕ) where
   unfolding sound
   holder_sound p y =
       let tag = seen_tag s t a p y in
-      let byte : Byte = state_of (get_or t.states (entry_of s a p) 0) in
+      let byte : Option State = state_of (get_or t.states (entry_of s a p) 0) in
       let home : home_at s t (entry_of s a p) ≡ a = rw (entry_index s (some v) a p, tag) (div-add-mod' a s.sets) in
       both (valid_state byte (ap valid (sym (seen_here s t a p tag)) ∙ y)) (or_r (not (valid (or_invalid byte))) (rw home (lt-ltb a s.lines v.below)))
     where
-      valid_state : (b : Byte) → Is (valid (or_invalid b)) → Is (is_state b)
-      valid_state (Of x) y = refl
-      valid_state No y = absurd (false≢true y)
+      valid_state : (b : Option State) → Is (valid (or_invalid b)) → Is (is_state b)
+      valid_state (Some x) y = refl
+      valid_state None y = absurd (false≢true y)
 
   unsound_holds_not : (p : ℕ) → Is (unsound s t a p) → Is (not (holds s t a p))
   unsound_holds_not p y = not_is (holds s t a p) (λ x. not_both (holder_sound p x) y)
@@ -278,21 +284,33 @@ module _ (l : Line) (v : Placed l) (g h d : List ℕ) where
             positive : (m : ℕ) → (m ≡ 0 → ⊥) → 0 < m
             positive m h = omega (arith, h)
 
-    pub surveyed-done
-        : ◌≡◌ {A = Masks} (record {
-          sound = eqb (bit_and (sum / 65536) (sum % 65536)) (sum / 65536);
-          holders = sum % 65536;
-          owners = bit_and (sum / 65536) (sum % 65536);
-        }) (masks_of s t a)
-    unfolding masks_of column_sound
-    surveyed-done = rw (all_sound, owners_are, holders_are)
+    abbrev marked_owners : ℕ
+    marked_owners = bit_and (sum / 65536) (sum % 65536)
+
+    pub surveyed_unsound : (marked_owners ≡ sum / 65536 → ⊥) → Err Entry ≡ ok_or (sound_masks s t a) Entry
+    unfolding sound_masks column_sound
+    surveyed_unsound n = rw (sym all_sound ∙ ne_eqb _ _ n)
+
+    pub surveyed_sound : marked_owners ≡ sum / 65536
+        → Ok (record { holders = sum % 65536; owners = marked_owners }) ≡ ok_or (sound_masks s t a) Entry
+    unfolding sound_masks masks_of column_sound
+    surveyed_sound e = rw (sym all_sound ∙ eq-eqb _ _ e, owners_are, holders_are)
+
+-- A look has what a survey said: by the same test.
+looked_by : {X Y : Type 0} (b : Bool) (f : X → Y) (x : X) → result_map_both f (λ (e : Refusal). e) (ok_or (cond b (Some x) None) Entry) ≡ ok_or (cond b (Some (f x)) None) Entry
+looked_by true f x = refl
+looked_by false f x = refl
+
+abbrev pub with_line : Shape → ℕ → Masks → Look
+with_line s a m = record { line = line_of s a; said = m }
+
+pub looked : (s : Shape) (t : Model) (a : ℕ) {r : Result Masks Refusal} → r ≡ ok_or (sound_masks s t a) Entry
+    → result_map_both (with_line s a) (λ (e : Refusal). e) r ≡ ok_or (look_of s t a) Entry
+unfolding sound_masks look_of
+looked s t a e = rw e (looked_by (column_sound s t a) (with_line s a) (masks_of s t a))
 
 -- What the masks say is what the definitions ask, in the tables with any memory beside them.
 module _ (s : Shape) (t : Model) (a : ℕ) {x : Masks} (e : x ≡ masks_of s t a) where
-  pub masks_sound : x.sound ≡ column_sound s t a
-  unfolding masks_of
-  masks_sound = ap (λ (x : Masks). x.sound) e
-
   pub masks_holders : x.holders ≡ ports_from (holds s t a) 0 s.ports
   unfolding masks_of
   masks_holders = ap (λ (x : Masks). x.holders) e
@@ -311,12 +329,12 @@ module _ (s : Shape) (t : Model) (a : ℕ) {x : Masks} (e : x ≡ masks_of s t a
   unfolding dirty
   masks_dirty = rw masks_owners (mask_any (owns s t a) s.ports)
 
-  pub masks_states : Is x.sound → AllStates s a t.states
-  unfolding column_sound sound
-  masks_states u p q = and_l (is_state (state_of (get_or t.states (entry_of s a p) 0))) _ (below_all (sound_by s t a) s.ports (sym masks_sound ∙ u) p q)
-
--- That every entry is sound, in the model with its memory.
-pub masks_column : (s : Shape) (b : Bytes) (a : ℕ) {x : Masks} → x ≡ masks_of s (tables_in s b.tags b.states b.words) a
-    → x.sound ≡ column_sound s (model_in s b) a
+-- Memory has no part in it.
+pub sound_column : (s : Shape) (b : Bytes) (a : ℕ) → column_sound s (tables_in s b.tags b.states b.words) a ≡ column_sound s (model_in s b) a
 unfolding column_sound sound tables_in model_in
-masks_column s b a e = masks_sound s _ a e
+sound_column s b a = refl
+
+-- Where every entry is sound, every byte is a state.
+pub sound_states : (s : Shape) (t : Model) (a : ℕ) → column_sound s t a ≡ true → AllStates s a t.states
+unfolding column_sound sound
+sound_states s t a u p q = and_l (is_state (state_of (get_or t.states (entry_of s a p) 0))) _ (below_all (sound_by s t a) s.ports u p q)

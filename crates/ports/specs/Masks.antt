@@ -1,5 +1,5 @@
 -- Sets of ports as numbers, a bit for each port; and what the ports say of a line, in that form.
-use Rattle.std.specs.Prelude.{ℕ, zero, suc, ◌+◌, ◌*◌, ◌/◌, ◌%◌, ◌^◌, ◌<◌, ◌≡◌, Bool, true, cond, ◌&&◌, ◌||◌, not, List, get_or, eqb, ltb}
+use Rattle.std.specs.Prelude.{ℕ, zero, suc, ◌+◌, ◌*◌, ◌/◌, ◌%◌, ◌^◌, ◌<◌, ◌≡◌, Bool, true, cond, ◌&&◌, ◌||◌, not, List, get_or, eqb, ltb, Option, Some, None}
 use Rattle.words.specs.Bools.{bit}
 use Rattle.protocol.specs.declared.state.State.TheVariants.{I}
 use Rattle.protocol.specs.State.{state_of, or_invalid, is_state, valid, owner}
@@ -44,10 +44,14 @@ says_of here near b =
 unfoldable pub look_lanes : Place → ℕ → ℕ → ℕ
 look_lanes x t b = says_of (eqb t x.tag) (ltb t x.limit) b
 
--- What the ports say of line a: that every entry is sound, the ports that hold the line, the ports that own it.
+-- What the ports say of line a: those that hold the line, and those that own it.
 unfoldable pub masks_of : Shape → Model → ℕ → Masks
-masks_of s t a = record { sound = column_sound s t a; holders = ports_from (holds s t a) 0 s.ports; owners = ports_from (owns s t a) 0 s.ports }
+masks_of s t a = record { holders = ports_from (holds s t a) 0 s.ports; owners = ports_from (owns s t a) 0 s.ports }
 
--- The line, what the ports say of it, and refusal 8 where an entry at its index is unsound.
-unfoldable pub look_of : Shape → Model → ℕ → Look
-look_of s t a = record { line = line_of s a; said = masks_of s t a; refusal = cond (column_sound s t a) 0 8 }
+-- The same where every entry at the line's index is sound, else nothing.
+unfoldable pub sound_masks : Shape → Model → ℕ → Option Masks
+sound_masks s t a = cond (column_sound s t a) (Some (masks_of s t a)) None
+
+-- The line, and what the ports say of it, where every entry at its index is sound, else nothing.
+unfoldable pub look_of : Shape → Model → ℕ → Option Look
+look_of s t a = cond (column_sound s t a) (Some (record { line = line_of s a; said = masks_of s t a })) None

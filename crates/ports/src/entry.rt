@@ -39,7 +39,7 @@ pub fn put_word(words: &mut [u8], k: usize, x: u64)
 // Entry k of a shape's tables.
 pub fn entry_at(shape: Shape, tags: &[u8], states: &[u8], words: &[u8], k: usize) -> Entry
     requires filled { Filled shape tags.now states.now words.now }
-    requires k_bound { k < entries shape }
+    requires entry { k < entries shape }
     ensures { result ≡ entry_at (tables_in shape tags.now states.now words.now) k }
 {
     Entry {
@@ -59,7 +59,7 @@ pub fn put_entry(
     e: Entry,
 )
     requires filled { Filled shape tags.old states.old words.old }
-    requires k_bound { k < entries shape }
+    requires entry { k < entries shape }
     ensures { tables_in shape tags.new states.new words.new
         ≡ put_at (tables_in shape tags.old states.old words.old) k e }
 {

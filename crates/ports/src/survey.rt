@@ -1,21 +1,23 @@
 // One look at every port's entry for a line.
 ghost use Rattle.std.specs.Prelude.{◌≡◌, true, ℕ, ◌+◌, ◌*◌, ◌-◌, ◌/◌, ◌%◌, ◌^◌, ◌<◌, get_or};
+ghost use Rattle.std.specs.Option.{ok_or};
+ghost use Rattle.refusals.specs.declared.Refusal.{Refusal};
 ghost use Rattle.endian.specs.Little.{numbers};
 ghost use Rattle.shape.specs.Shape.{in_range, entries};
 ghost use Rattle.ports.specs.Bytes.{tables_in, Filled};
 ghost use Rattle.ports.specs.Line.{Placed};
-ghost use Rattle.ports.specs.Masks.{look_lanes, masks_of, look_of};
+ghost use Rattle.ports.specs.Masks.{look_lanes, sound_masks, look_of};
 
 use crate::line::Line;
 use crate::{entry, line};
 use protocol::state;
+use refusals::Refusal;
 use shape::{Place, Shape};
 use words::choose;
 
-// What the ports say of a line: that every entry is sound, the ports that hold the line, and those that own it. Bit p is port p's.
+// What the ports say of a line: those that hold it, and those that own it. Bit p is port p's.
 #[derive(Clone, Copy)]
 pub struct Masks {
-    pub sound: bool,
     pub holders: u64,
     pub owners: u64,
 }
@@ -33,16 +35,16 @@ fn lanes_at(place: Place, t: u32, b: u8) -> u64
     let near = own / 4294967296 * 65536;
     let here = near + own % 4294967296;
     let far = near + own % 65536 * 65536;
-    let away = choose::choose_word(t < place.limit, near, far);
-    let row = choose::choose_word(t == place.tag, here, away);
-    let x = row >> choose::choose_byte(b < 16, b, 15);
+    let away = choose::choose(t < place.limit, near, far);
+    let row = choose::choose(t == place.tag, here, away);
+    let x = row >> choose::choose(b < 16, b, 15);
     x % 2 + x / 65536 % 2 * 65536
 }
 
 fn entry_lanes(tags: &[u8], states: &[u8], words: &[u8], line: Line, k: usize) -> u64
     requires filled { Filled line.shape tags.now states.now words.now }
     requires placed { Placed line }
-    requires k_bound { k < entries line.shape }
+    requires entry { k < entries line.shape }
     ensures { (let n : ℕ = look_lanes line.place (get_or (numbers 4 (entries line.shape) tags.now) k 0)
         (get_or states.now k 0) in result ≡ n % 4294967296 + n / 4294967296 * 65536) }
 {
@@ -66,55 +68,51 @@ fn rotated_left(x: u64, n: usize) -> u64
 
 // Asks every port, in one pass. The number of the port's entry runs beside the port, from the index on: sets more for each port. What a port
 // says comes in at the lanes' lowest bits; all is rotated right by one bit for each port, and left at the end by as many bits as there are
-// ports, so that port p's bit is bit p. No word is read: the words are lent so that what is said is said of the whole tables.
-fn survey_ports(tags: &[u8], states: &[u8], words: &[u8], line: Line) -> Masks
+// ports, so that port p's bit is bit p. Where an entry is unsound the order is refused. No word is read: the words are lent so that what is
+// said is said of the whole tables.
+fn survey_ports(tags: &[u8], states: &[u8], words: &[u8], line: Line) -> Result<Masks, Refusal>
     requires filled { Filled line.shape tags.now states.now words.now }
     requires placed { Placed line }
-    ensures { result ≡ masks_of line.shape (tables_in line.shape tags.now states.now words.now)
-        line.number }
+    ensures { result ≡ ok_or (sound_masks line.shape (tables_in line.shape tags.now states.now words.now) line.number) Refusal.Entry }
 {
-    let sets = line.shape.sets;
     let ports = line.shape.ports;
     let mut rotated = 0u64;
     let mut k = line.place.index;
-    let mut p = 0usize;
-    while p < ports {
+    for p in 0..ports {
         let seen = entry_lanes(tags, states, words, line, k);
         rotated = rotated_right(rotated + seen);
-        k += sets;
-        p += 1;
+        k += line.shape.sets;
     }
     let sum = rotated_left(rotated, ports);
     let holders = sum % 65536;
     let marked = sum / 65536;
     let owners = marked & holders;
-    Masks {
-        sound: owners == marked,
-        holders,
-        owners,
+    if owners != marked {
+        return Err(Refusal::Entry);
     }
+    Ok(Masks { holders, owners })
 }
 
-// A line, what the ports say of it, and the refusal of an order that looks at their entries: 8 where one of them is unsound, else 0.
+// A line, and what the ports say of it.
 #[derive(Clone, Copy)]
 pub struct Look {
     pub line: Line,
     pub said: Masks,
-    pub refusal: u64,
 }
 
-// Looks at line a of a shape.
-pub fn look_at(shape: Shape, tags: &[u8], states: &[u8], words: &[u8], a: usize) -> Look
+// Looks at line a of a shape. An order that looks at the ports' entries is refused where one of them is unsound.
+pub fn look_at(
+    shape: Shape,
+    tags: &[u8],
+    states: &[u8],
+    words: &[u8],
+    a: usize,
+) -> Result<Look, Refusal>
     requires filled { Filled shape tags.now states.now words.now }
-    requires shape_value { (in_range shape ≡ true) × (a < shape.lines) }
-    ensures { result ≡ look_of shape (tables_in shape tags.now states.now words.now) a }
+    requires there { (in_range shape ≡ true) × (a < shape.lines) }
+    ensures { result ≡ ok_or (look_of shape (tables_in shape tags.now states.now words.now) a) Refusal.Entry }
 {
     let line = line::line_of(shape, a);
-    let said = survey_ports(tags, states, words, line);
-    let refusal = choose::choose_word(said.sound, 0, 8);
-    Look {
-        line,
-        said,
-        refusal,
-    }
+    let said = survey_ports(tags, states, words, line)?;
+    Ok(Look { line, said })
 }

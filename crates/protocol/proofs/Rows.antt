@@ -141,7 +141,7 @@ act_stores r = let h = bus_below r.bus in stored (bus_number r.bus) r.stores (om
 place : (s : ℕ) → Is (is_state (state_of s)) → s % 16 ≡ code (or_invalid (state_of s))
 place s h = omega (arith, code-state_of s h, code_small (or_invalid (state_of s)))
 
-pub back_number : (m : Mode) → eqb (mode_number m) 1 ≡ is_back m
+back_number : (m : Mode) → bit (is_back m) ≡ mode_number m
 back_number Through = refl
 back_number Back = refl
 
@@ -166,23 +166,23 @@ cleaned Rewrites Back true dirty = (omega arith, refl)
 cleaned Rewrites Back false dirty = (omega arith, refl)
 
 -- The row has what is taken off it, and its nibbles are the rule.
-pub row_fits : (k : Outcome) (m : Mode) (shared dirty : Bool) {a b c d off : ℕ} {w : Bool} {row : Row} →
-    w ≡ writes k → a ≡ bit w → b ≡ mode_number m → c ≡ bit shared → d ≡ bit dirty → row ≡ own_row_at (((a * 2 + b) * 2 + c) * 2 + d) →
+pub row_fits : (k : Outcome) (m : Mode) (shared dirty : Bool) {a b c d off : ℕ} {w v : Bool} {row : Row} →
+    w ≡ writes k → v ≡ is_back m → a ≡ bit w → b ≡ bit v → c ≡ bit shared → d ≡ bit dirty → row ≡ own_row_at (((a * 2 + b) * 2 + c) * 2 + d) →
     off ≡ taken_off k m → off ≤ row.0
-row_fits k m shared dirty ew ea eb ec ed er ek = rw (ek, er, ea, ew, eb, ec, ed, row_at k m shared dirty) (cleaned k m shared dirty).0
+row_fits k m shared dirty ew ev ea eb ec ed er ek = rw (ek, er, ea, eb, ec, ed, ew, ev, back_number m, row_at k m shared dirty) (cleaned k m shared dirty).0
 
-pub own_rule_is : (k : Outcome) (m : Mode) (shared dirty : Bool) (s : ℕ) → Is (is_state (state_of s)) → {a b c d off x y : ℕ} {w : Bool} {row : Row} →
-    w ≡ writes k → a ≡ bit w → b ≡ mode_number m → c ≡ bit shared → d ≡ bit dirty → row ≡ own_row_at (((a * 2 + b) * 2 + c) * 2 + d) →
+pub own_rule_is : (k : Outcome) (m : Mode) (shared dirty : Bool) (s : ℕ) → Is (is_state (state_of s)) → {a b c d off x y : ℕ} {w v : Bool} {row : Row} →
+    w ≡ writes k → v ≡ is_back m → a ≡ bit w → b ≡ bit v → c ≡ bit shared → d ≡ bit dirty → row ≡ own_row_at (((a * 2 + b) * 2 + c) * 2 + d) →
     x ≡ nibble_at row.1 (s % 16) → off ≡ taken_off k m → y ≡ nibble_at (row.0 - off) (s % 16) →
     ◌≡◌ {A = Coded} (record { own = y; bus = x % 8; stores = leb 8 x }) (coded (rule k m shared dirty (or_invalid (state_of s))))
 unfolding own_row coded
-own_rule_is k m shared dirty s h ew ea eb ec ed er ex ek ey =
+own_rule_is k m shared dirty s h ew ev ea eb ec ed er ex ek ey =
     let z = or_invalid (state_of s) in
     let r = rule k m shared dirty z in
     let own = packed_at (λ s. code (rule k m shared dirty s).own) (λ s. code_small (rule k m shared dirty s).own) z in
     let act = packed_at (λ s. act_number (rule k m shared dirty s)) (λ s. act_small (rule k m shared dirty s)) z in
     let next = (cleaned k m shared dirty).1 in
-    rw (ey, ek, ex, er, ea, ew, eb, ec, ed, row_at k m shared dirty, next, acts_same k m shared dirty, place s h, own, act, act_bus r, act_stores r)
+    rw (ey, ek, ex, er, ea, eb, ec, ed, ew, ev, back_number m, row_at k m shared dirty, next, acts_same k m shared dirty, place s h, own, act, act_bus r, act_stores r)
 
 -- The nibble of the command's row is what the holder becomes.
 pub snooped_is : (n s : ℕ) → Is (is_state (state_of s)) → {row x : ℕ} → row ≡ snoop_row n → x ≡ nibble_at row (s % 16) →

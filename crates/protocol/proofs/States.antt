@@ -10,8 +10,8 @@ use Rattle.protocol.specs.declared.state.Mode.{Mode}
 use Rattle.protocol.specs.declared.state.Mode.TheVariants.{Through, Back}
 use Rattle.protocol.specs.declared.state.State.{State}
 use Rattle.protocol.specs.declared.state.State.TheVariants.{I, S, E, O, M}
-use Rattle.protocol.specs.declared.state.Byte.TheVariants.{Of}
 use Rattle.words.specs.Bools.{implies}
+use Rattle.std.specs.Prelude.{Some}
 use Rattle.protocol.specs.State.{code, state_of, state_row, is_state, or_invalid, valid, owner, exclusive, is_o, same_mode}
 use Rattle.words.proofs.Bools.{Is, mp}
 use Rattle.protocol.proofs.Finite.{at_state}
@@ -48,7 +48,7 @@ mode_itself Through = refl
 mode_itself Back = refl
 
 -- The byte of a state is that state's.
-pub state_of-code : (s : State) → state_of (code s) ≡ Of s
+pub state_of-code : (s : State) → state_of (code s) ≡ Some s
 unfolding state_of code
 state_of-code I = refl
 state_of-code (S Through) = refl

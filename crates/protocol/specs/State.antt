@@ -1,12 +1,10 @@
 -- Modes, the seven states of an entry, and the bytes of the state table.
-use Rattle.std.specs.Prelude.{ℕ, zero, suc, ◌+◌, ◌*◌, ◌^◌, Bool, true, false, cond, not, eqb}
+use Rattle.std.specs.Prelude.{ℕ, zero, suc, ◌+◌, ◌*◌, ◌^◌, Bool, true, false, cond, not, eqb, Option, Some, None}
 use Rattle.words.specs.Bools.{bit}
 use Rattle.protocol.specs.declared.state.Mode.{Mode}
 use Rattle.protocol.specs.declared.state.Mode.TheVariants.{Through, Back}
 use Rattle.protocol.specs.declared.state.State.{State}
 use Rattle.protocol.specs.declared.state.State.TheVariants.{I, S, E, O, M}
-use Rattle.protocol.specs.declared.state.Byte.{Byte}
-use Rattle.protocol.specs.declared.state.Byte.TheVariants.{Of, No}
 
 -- The byte of a state.
 unfoldable pub code : State → ℕ
@@ -19,24 +17,24 @@ code O = 11
 code M = 12
 
 -- The state of a byte; a byte other than the seven is no state.
-unfoldable pub state_of : ℕ → Byte
+unfoldable pub state_of : ℕ → Option State
 state_of b =
-    cond (eqb b 0) (Of I)
-    (cond (eqb b 1) (Of (S Through))
-    (cond (eqb b 2) (Of (E Through))
-    (cond (eqb b 9) (Of (S Back))
-    (cond (eqb b 10) (Of (E Back))
-    (cond (eqb b 11) (Of O)
-    (cond (eqb b 12) (Of M) No))))))
+    cond (eqb b 0) (Some I)
+    (cond (eqb b 1) (Some (S Through))
+    (cond (eqb b 2) (Some (E Through))
+    (cond (eqb b 9) (Some (S Back))
+    (cond (eqb b 10) (Some (E Back))
+    (cond (eqb b 11) (Some O)
+    (cond (eqb b 12) (Some M) None))))))
 
-abbrev pub is_state : Byte → Bool
-is_state (Of s) = true
-is_state No = false
+abbrev pub is_state : Option State → Bool
+is_state (Some s) = true
+is_state None = false
 
 -- A byte that is no state is read as I. No rule is asked there: a step refuses such a byte first.
-abbrev pub or_invalid : Byte → State
-or_invalid (Of s) = s
-or_invalid No = I
+abbrev pub or_invalid : Option State → State
+or_invalid (Some s) = s
+or_invalid None = I
 
 -- Not I.
 abbrev pub valid : State → Bool

@@ -12,7 +12,7 @@ use words::choose;
 
 // What a port says to the other holders, or a device to all: nothing; become S in a mode; that, and take the new word; become I; become write-back S,
 // but an owner stays the owner, as O.
-#[derive(Clone, Copy)]
+#[derive(Clone, Copy, Debug, PartialEq, Eq)]
 pub enum Bus {
     Quiet,
     Share(Mode),
@@ -22,7 +22,7 @@ pub enum Bus {
 }
 
 // A rule of the own table: the port's next state, what goes over the bus, and whether memory gets the line's word.
-#[derive(Clone, Copy)]
+#[derive(Clone, Copy, Debug, PartialEq, Eq)]
 pub struct Rule {
     pub own: State,
     pub bus: Bus,
@@ -30,7 +30,7 @@ pub struct Rule {
 }
 
 // The same in numbers: the state's byte and the number of the bus command.
-#[derive(Clone, Copy)]
+#[derive(Clone, Copy, Debug, PartialEq, Eq)]
 pub struct Coded {
     pub own: u8,
     pub bus: u8,
@@ -39,9 +39,10 @@ pub struct Coded {
 
 // A row of the own table: two words with a nibble for each state byte that the port may see, byte 0's the lowest. The first has the
 // next state's byte, the second the number of the bus command, plus 8 where memory gets the word.
-#[derive(Clone, Copy)]
+#[derive(Clone, Copy, Debug, PartialEq, Eq)]
 pub struct Row(pub u64, pub u64);
 
+#[tactic(auto, unfolding(crate::specs::Coded::own_row_at, crate::specs::Coded::own_row, crate::specs::Coded::packed, crate::specs::Coded::pack, crate::specs::Coded::act_number, crate::specs::Coded::outcome_at, crate::specs::Coded::mode_at, crate::specs::Rules::rule, crate::specs::State::code, crate::specs::Coded::bus_number))]
 fn own_row(n: u8) -> Row
     requires { n < 16 }
     ensures { result ≡ own_row_at n }
@@ -94,43 +95,20 @@ pub fn nibble(row: u64, s: u8) -> u8
 fn does_write(k: Outcome) -> bool
     ensures { result ≡ writes k }
 {
-    match k {
-        Outcome::Reads => false,
-        Outcome::Writes => true,
-        Outcome::Rewrites => true,
-    }
+    matches!(k, Outcome::Writes | Outcome::Rewrites)
 }
 
 fn does_rewrite(k: Outcome) -> bool
     ensures { result ≡ rewrites k }
 {
-    match k {
-        Outcome::Reads => false,
-        Outcome::Writes => false,
-        Outcome::Rewrites => true,
-    }
+    matches!(k, Outcome::Rewrites)
 }
 
 // What a rewrite takes off the next states of a write's row: in write back, where the port sees E, 2, which makes write-back E of M.
 fn taken_off(k: Outcome, m: Mode) -> u64
     ensures { result ≡ taken_off k m }
 {
-    choose::choose_word(does_rewrite(k) & (mode_number(m) == 1), 0x0020000000200, 0)
-}
-
-fn mode_number(m: Mode) -> u8
-    ensures { (result ≡ mode_number m) × (result ≤ 1) }
-{
-    match m {
-        Mode::Through => 0,
-        Mode::Back => 1,
-    }
-}
-
-fn bool_number(b: bool) -> u8
-    ensures { (result ≡ bit b) × (result ≤ 1) }
-{
-    if b { 1 } else { 0 }
+    choose::choose(does_rewrite(k) & m.is_back(), 0x0020000000200, 0)
 }
 
 // The rule for a port that sees the line in the state of byte s, where `shared` says that another port holds it and `dirty` that some
@@ -139,8 +117,8 @@ pub fn own_rule(k: Outcome, m: Mode, shared: bool, dirty: bool, s: u8) -> Coded
     requires { is_state (state_of s) ≡ true }
     ensures { result ≡ coded (rule k m shared dirty (or_invalid (state_of s))) }
 {
-    let n = ((bool_number(does_write(k)) * 2 + mode_number(m)) * 2 + bool_number(shared)) * 2
-        + bool_number(dirty);
+    let n = ((u8::from(does_write(k)) * 2 + u8::from(m.is_back())) * 2 + u8::from(shared)) * 2
+        + u8::from(dirty);
     let row = own_row(n);
     let act = nibble(row.1, s);
     Coded {

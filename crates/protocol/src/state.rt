@@ -1,16 +1,25 @@
 // Modes, the seven states of an entry, and the bytes of the state table.
 ghost use Rattle.std.specs.Prelude.{◌≡◌};
-ghost use Rattle.protocol.specs.State.{code, state_of, state_row, or_invalid, is_state, valid, owner};
+ghost use Rattle.std.specs.Result.{result_ok};
+ghost use Rattle.protocol.specs.State.{code, state_of, state_row, or_invalid, is_state, valid, owner, exclusive, is_back};
 
 // The mode of an access, and of an entry other than I.
-#[derive(Clone, Copy)]
+#[derive(Clone, Copy, Debug, PartialEq, Eq)]
 pub enum Mode {
     Through,
     Back,
 }
 
+impl Mode {
+    pub fn is_back(self) -> bool
+        ensures { result ≡ is_back self }
+    {
+        matches!(self, Mode::Back)
+    }
+}
+
 // Modified, owned, exclusive, shared, invalid. O and M carry no mode: they are always write back.
-#[derive(Clone, Copy)]
+#[derive(Clone, Copy, Debug, PartialEq, Eq)]
 pub enum State {
     I,
     S(Mode),
@@ -19,47 +28,78 @@ pub enum State {
     M,
 }
 
-// A byte of the state table: one of the seven states, or no state.
-#[derive(Clone, Copy)]
-pub enum Byte {
-    Of(State),
-    No,
-}
+// A byte of the state table that is none of the seven states.
+#[derive(Clone, Copy, Debug, PartialEq, Eq)]
+pub struct NoState;
 
 // The one place that tells the state bytes apart, with the row of bits after it.
-#[tactic(auto, unfolding(crate::specs::State::state_of))]
-pub fn byte_state(b: u8) -> Byte
-    ensures { result ≡ state_of b }
-{
-    match b {
-        0 => Byte::Of(State::I),
-        1 => Byte::Of(State::S(Mode::Through)),
-        2 => Byte::Of(State::E(Mode::Through)),
-        9 => Byte::Of(State::S(Mode::Back)),
-        10 => Byte::Of(State::E(Mode::Back)),
-        11 => Byte::Of(State::O),
-        12 => Byte::Of(State::M),
-        3..=8 | 13..=255 => Byte::No,
+impl TryFrom<u8> for State {
+    type Error = NoState;
+
+    ghost try_from_gives = { λ b r. result_ok r ≡ state_of b };
+
+    #[tactic(auto, unfolding(crate::specs::State::state_of))]
+    fn try_from(b: u8) -> Result<State, NoState> {
+        match b {
+            0 => Ok(State::I),
+            1 => Ok(State::S(Mode::Through)),
+            2 => Ok(State::E(Mode::Through)),
+            9 => Ok(State::S(Mode::Back)),
+            10 => Ok(State::E(Mode::Back)),
+            11 => Ok(State::O),
+            12 => Ok(State::M),
+            3..=8 | 13..=255 => Err(NoState),
+        }
     }
 }
 
 // The byte of a state.
-#[tactic(auto, unfolding(crate::specs::State::code))]
-pub fn state_byte(s: State) -> u8
-    ensures { result ≡ code s }
-{
-    match s {
-        State::I => 0,
-        State::S(m) => match m {
-            Mode::Through => 1,
-            Mode::Back => 9,
-        },
-        State::E(m) => match m {
-            Mode::Through => 2,
-            Mode::Back => 10,
-        },
-        State::O => 11,
-        State::M => 12,
+impl From<State> for u8 {
+    ghost from_gives = { λ s b. b ≡ code s };
+
+    #[tactic(auto, unfolding(crate::specs::State::code))]
+    fn from(s: State) -> u8 {
+        match s {
+            State::I => 0,
+            State::S(Mode::Through) => 1,
+            State::S(Mode::Back) => 9,
+            State::E(Mode::Through) => 2,
+            State::E(Mode::Back) => 10,
+            State::O => 11,
+            State::M => 12,
+        }
+    }
+}
+
+impl State {
+    // Not I.
+    pub fn is_valid(self) -> bool
+        ensures { result ≡ valid self }
+    {
+        match self {
+            State::I => false,
+            State::S(_) | State::E(_) | State::O | State::M => true,
+        }
+    }
+
+    // O or M.
+    pub fn is_owner(self) -> bool
+        ensures { result ≡ owner self }
+    {
+        match self {
+            State::I | State::S(_) | State::E(_) => false,
+            State::O | State::M => true,
+        }
+    }
+
+    // E or M.
+    pub fn is_exclusive(self) -> bool
+        ensures { result ≡ exclusive self }
+    {
+        match self {
+            State::I | State::S(_) | State::O => false,
+            State::E(_) | State::M => true,
+        }
     }
 }
 
@@ -72,43 +112,22 @@ pub fn state_row() -> u64
     0xE1F8_1800_1E06
 }
 
-pub fn is_state(b: Byte) -> bool
-    ensures { result ≡ is_state b }
+pub fn is_state(b: u8) -> bool
+    ensures { result ≡ is_state (state_of b) }
 {
-    match b {
-        Byte::Of(_) => true,
-        Byte::No => false,
-    }
+    State::try_from(b).is_ok()
 }
 
 // Not I. A byte that is no state counts as I here: a step refuses it first.
-pub fn is_valid(b: Byte) -> bool
-    ensures { result ≡ valid (or_invalid b) }
+pub fn is_valid(b: u8) -> bool
+    ensures { result ≡ valid (or_invalid (state_of b)) }
 {
-    match b {
-        Byte::Of(s) => match s {
-            State::I => false,
-            State::S(_) => true,
-            State::E(_) => true,
-            State::O => true,
-            State::M => true,
-        },
-        Byte::No => false,
-    }
+    State::try_from(b).is_ok_and(State::is_valid)
 }
 
-// O or M.
-pub fn is_owner(b: Byte) -> bool
-    ensures { result ≡ owner (or_invalid b) }
+// O or M; the same of a byte that is no state.
+pub fn is_owner(b: u8) -> bool
+    ensures { result ≡ owner (or_invalid (state_of b)) }
 {
-    match b {
-        Byte::Of(s) => match s {
-            State::I => false,
-            State::S(_) => false,
-            State::E(_) => false,
-            State::O => true,
-            State::M => true,
-        },
-        Byte::No => false,
-    }
+    State::try_from(b).is_ok_and(State::is_owner)
 }

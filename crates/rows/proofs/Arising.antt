@@ -23,8 +23,7 @@ use Rattle.protocol.proofs.Kept.{compatible, known, Test, everywhere, Kept, kept
 use Rattle.shape.specs.declared.Shape.{Shape}
 use Rattle.model.specs.declared.order.Call.{Call}
 use Rattle.model.specs.declared.order.Call.TheVariants.{ByPort, Flush, DeviceRead, DeviceWrite}
-use Rattle.model.specs.declared.order.Decoded.{Decoded}
-use Rattle.model.specs.declared.order.Decoded.TheVariants.{Asked, Refused}
+use Rattle.model.specs.Order.{Decoded, Asked, Refused}
 use Rattle.model.specs.Order.{decode, There}
 use Rattle.model.specs.Tables.{Model, seen, holds, owns, dirty}
 use Rattle.model.specs.Step.{shared}

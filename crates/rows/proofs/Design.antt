@@ -9,6 +9,8 @@ use lib.ListN.{get_or, set}
 use lib.Seq.{set-get_or}
 use lib.Dec.{eqb}
 use borrow.Author.Tests.{eqb-true, eqb-false, eq-eqb, ne_eqb, not-true}
+use Rattle.std.specs.Prelude.{Option, Some, None}
+use Rattle.protocol.specs.declared.state.State.{State}
 use Rattle.words.specs.Bools.{bit}
 use Rattle.words.specs.Word.{merge}
 use Rattle.words.specs.declared.access.Access.{Access}
@@ -19,8 +21,6 @@ use Rattle.words.proofs.Bools.{Is, and_none, by_bool, by_cond}
 use Rattle.protocol.specs.declared.state.Mode.{Mode}
 use Rattle.protocol.specs.declared.rules.Rule.{Rule}
 use Rattle.protocol.specs.declared.rules.Bus.TheVariants.{Invalidate}
-use Rattle.protocol.specs.declared.state.Byte.{Byte}
-use Rattle.protocol.specs.declared.state.Byte.TheVariants.{Of, No}
 use Rattle.protocol.specs.State.{code, state_of, is_state, or_invalid, owner, valid}
 use Rattle.protocol.specs.Rules.{flush_rule, snooped, updates}
 use Rattle.protocol.proofs.States.{not_valid, code-state_of}
@@ -29,7 +29,7 @@ use Rattle.shape.specs.Shape.{entry_of}
 use Rattle.shape.proofs.Bounds.{some_sets}
 use Rattle.model.specs.declared.order.Call.{Call}
 use Rattle.model.specs.declared.order.Call.TheVariants.{ByPort, Flush, DeviceRead, DeviceWrite}
-use Rattle.model.specs.declared.order.Decoded.TheVariants.{Asked}
+use Rattle.model.specs.Order.{Asked}
 use Rattle.model.specs.Order.{looks, There}
 use Rattle.model.specs.Tables.{Model, lent_refusal, state_at, seen, word_at, holds, dirty, column_sound}
 use Rattle.model.specs.Step.{Result, result, accepted, put_below, byte_answered, word_answered, shared, word_found, fetches, evicts_owner}
@@ -47,9 +47,9 @@ use Rattle.rows.proofs.Cells.{says-bit, sent_own, sent_device, takes_says}
 use Rattle.rows.proofs.Counts.{none_heard, access_sum, supplied_named, words_are_named}
 
 -- A byte that is read as a state other than I is a state.
-valid_state : (b : Byte) → Is (valid (or_invalid b)) → Is (is_state b)
-valid_state (Of s) h = refl
-valid_state No h = h
+valid_state : (b : Option State) → Is (valid (or_invalid b)) → Is (is_state b)
+valid_state (Some s) h = refl
+valid_state None h = h
 
 -- Models and results by their parts.
 same_model : {m m' g g' h h' d d' : List ℕ} → m ≡ m' → g ≡ g' → h ≡ h' → d ≡ d'

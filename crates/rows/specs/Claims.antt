@@ -4,7 +4,7 @@ use Rattle.words.specs.declared.access.Outcome.{Outcome}
 use Rattle.protocol.specs.declared.state.Mode.{Mode}
 use Rattle.shape.specs.declared.Shape.{Shape}
 use Rattle.model.specs.declared.order.Call.{Call}
-use Rattle.model.specs.declared.order.Decoded.TheVariants.{Asked}
+use Rattle.model.specs.Order.{Asked}
 use Rattle.model.specs.Order.{Order, decode}
 use Rattle.model.specs.Tables.{Model}
 use Rattle.model.specs.Step.{step, word_found}

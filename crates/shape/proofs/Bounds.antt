@@ -1,14 +1,15 @@
 -- What a shape within its limits bounds, the limit of tags at an index, and the index as the bits below the sets. Assumes nothing.
 use Prim.Native.Nat.{ℕ, zero, suc, ◌+◌, ◌*◌, ◌-◌, ◌/◌, ◌%◌, ◌^◌, ◌<◌, ◌≤◌}
 use mathlib.Core.Path.{◌≡◌, refl, sym, ◌∙◌, subst}
-use mathlib.Core.Bool.{Bool, true, false, ◌&&◌, ◌||◌, false≢true}
-use mathlib.Core.Logic.{◌≢◌, ◌↔◌}
+use mathlib.Core.Bool.{Bool, true, false, ◌&&◌, ◌||◌}
+use mathlib.Core.Logic.{◌↔◌}
 use native.Mathlib.Omega.{arith}
 use native.Mathlib.Nat.{mul-le-mul, div-le_self, div-lt_iff_lt-mul}
 use native.Mathlib.Decide.{dec_lt}
 use lib.Dec.{eqb, leb, ltb}
 use lib.Bits.{bit_and, and_mask}
-use borrow.Author.Tests.{ne_eqb, eqb-true, leb-true, lt-ltb, le-ltb}
+use lib.Count.{count_trailing_zeros}
+use borrow.Author.Tests.{eqb-true, leb-true, lt-ltb, le-ltb}
 use Rattle.words.proofs.Bools.{Is, and_l, and_r}
 use Rattle.shape.specs.declared.Shape.{Shape}
 use Rattle.shape.specs.Shape.{within, is_sets, in_range, entries}
@@ -17,26 +18,31 @@ or_cases : {P : Type 0} (a b : Bool) → Is (a || b) → (Is a → P) → (Is b 
 or_cases true b h f g = f refl
 or_cases false b h f g = g h
 
-sets_le : (n : ℕ) → Is (is_sets n) → n ≤ 64
-sets_le n h =
+-- What holds of each of the seven numbers of sets.
+sets_cases : (P : ℕ → Type 0) → P 1 → P 2 → P 4 → P 8 → P 16 → P 32 → P 64 → (n : ℕ) → Is (is_sets n) → P n
+sets_cases P p1 p2 p4 p8 p16 p32 p64 n h =
     or_cases (eqb n 1 || eqb n 2 || eqb n 4 || eqb n 8 || eqb n 16 || eqb n 32) (eqb n 64) h
     (λ a. or_cases (eqb n 1 || eqb n 2 || eqb n 4 || eqb n 8 || eqb n 16) (eqb n 32) a
     (λ b. or_cases (eqb n 1 || eqb n 2 || eqb n 4 || eqb n 8) (eqb n 16) b
     (λ c. or_cases (eqb n 1 || eqb n 2 || eqb n 4) (eqb n 8) c
     (λ d. or_cases (eqb n 1 || eqb n 2) (eqb n 4) d
-    (λ e. or_cases (eqb n 1) (eqb n 2) e (λ g. small 1 g (omega arith)) (λ g. small 2 g (omega arith)))
-    (λ g. small 4 g (omega arith)))
-    (λ g. small 8 g (omega arith)))
-    (λ g. small 16 g (omega arith)))
-    (λ g. small 32 g (omega arith)))
-    (λ g. small 64 g (omega arith))
+    (λ e. or_cases (eqb n 1) (eqb n 2) e (at 1 p1) (at 2 p2)) (at 4 p4)) (at 8 p8)) (at 16 p16)) (at 32 p32)) (at 64 p64)
   where
-    small : (k : ℕ) → Is (eqb n k) → k ≤ 64 → n ≤ 64
-    small k g l = omega (arith, eqb-true n k g)
+    at : (k : ℕ) → P k → Is (eqb n k) → P n
+    at k p g = subst P (sym (eqb-true n k g)) p
 
--- The sets that are none of the first six.
-pub sets_last : (n : ℕ) → Is (is_sets n) → n ≢ 1 → n ≢ 2 → n ≢ 4 → n ≢ 8 → n ≢ 16 → n ≢ 32 → n ≡ 64
-sets_last n h a b c d e f = eqb-true n 64 (rw (ne_eqb n 1 a, ne_eqb n 2 b, ne_eqb n 4 c, ne_eqb n 8 d, ne_eqb n 16 e, ne_eqb n 32 f) at h)
+sets_le : (n : ℕ) → Is (is_sets n) → n ≤ 64
+sets_le = sets_cases (λ n. n ≤ 64) (omega arith) (omega arith) (omega arith) (omega arith) (omega arith) (omega arith) (omega arith)
+
+-- The sets as a power of two, at most the sixth.
+abbrev pub PowerOfTwo : ℕ → Type 0
+PowerOfTwo n = (2 ^ count_trailing_zeros 64 n ≡ n) × (count_trailing_zeros 64 n ≤ 6)
+
+pub sets_shift : (n : ℕ) → Is (is_sets n) → PowerOfTwo n
+unfolding count_trailing_zeros
+sets_shift =
+    sets_cases PowerOfTwo (refl, omega arith) (refl, omega arith) (refl, omega arith) (refl, omega arith) (refl, omega arith) (refl, omega arith)
+    (refl, omega arith)
 
 pub record Bounded (s : Shape) : Type 0 where
   pub ports : s.ports ≤ 8
@@ -109,8 +115,7 @@ bits_below_lem a n k e = subst (λ (m : ℕ). bit_and a (m - 1) ≡ a % m) e (an
 
 -- There is a set.
 no_sets : (n : ℕ) → Is (is_sets n) → zero < n
-no_sets zero h = absurd (false≢true h)
-no_sets (suc n) h = omega arith
+no_sets = sets_cases (λ n. zero < n) (omega arith) (omega arith) (omega arith) (omega arith) (omega arith) (omega arith) (omega arith)
 
 pub some_sets : (s : Shape) → Is (in_range s) → zero < s.sets
 unfolding in_range

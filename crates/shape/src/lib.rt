@@ -4,14 +4,16 @@
 pub mod range;
 
 ghost use Rattle.std.specs.Prelude.{◌≡◌, true, ◌<◌, ◌≤◌, ◌+◌, ◌-◌, ◌/◌, ◌%◌, ◌^◌};
-ghost use Rattle.shape.specs.Shape.{unranged, is_sets, in_range, entries, entry_number, sizes_of};
+ghost use Rattle.refusals.specs.Numbers.{refusal_in};
+ghost use Rattle.shape.specs.Shape.{shape_of, unranged, is_sets, in_range, entries, entry_number, sizes_of};
 ghost use Rattle.shape.specs.Shape.{fits, ranges_empty, ranges_end, fit_refusal, refusal_of, place_of};
 
 use range::Range;
+use refusals::Refusal;
 
 // How many ports there are, how many sets each port's direct-mapped cache has, and how many lines main memory has; the lines on which every
 // access runs write back, and those on which it runs write through, if they are not scratch. (Document 01's word shape.)
-#[derive(Clone, Copy)]
+#[derive(Clone, Copy, Debug, PartialEq, Eq)]
 pub struct Shape {
     pub ports: usize,
     pub sets: usize,
@@ -20,8 +22,8 @@ pub struct Shape {
     pub device: Range,
 }
 
-// Main memory and the three tables in bytes: eight for a word, four for a tag, one for a state.
-#[derive(Clone, Copy)]
+// How long main memory and the three tables are.
+#[derive(Clone, Copy, Debug, PartialEq, Eq)]
 pub struct Sizes {
     pub memory: usize,
     pub tags: usize,
@@ -31,19 +33,11 @@ pub struct Sizes {
 
 // Where a line lies: its index and tag, and the number of lines with that index. An entry at the index has a home line below lines
 // exactly where its tag is below this limit.
-#[derive(Clone, Copy)]
+#[derive(Clone, Copy, Debug, PartialEq, Eq)]
 pub struct Place {
     pub index: usize,
     pub tag: u32,
     pub limit: u32,
-}
-
-// The same in one width.
-#[derive(Clone, Copy)]
-struct Split {
-    index: usize,
-    tag: usize,
-    limit: usize,
 }
 
 impl Shape {
@@ -65,34 +59,45 @@ impl Shape {
 
     pub const MAX_DATA_BYTES: usize = 8 * Shape::MAX_ENTRIES;
 
-    // A shape whose two ranges are empty.
-    pub fn unranged(ports: usize, sets: usize, lines: usize) -> Shape
-        ensures { result ≡ unranged ports sets lines }
+    // A shape by its seven numbers, in the order in which a host gives them.
+    pub fn new(
+        ports: usize,
+        sets: usize,
+        lines: usize,
+        scratch_first: usize,
+        scratch_count: usize,
+        device_first: usize,
+        device_count: usize,
+    ) -> Shape
+        ensures { result ≡ shape_of ports sets lines scratch_first scratch_count device_first device_count }
     {
         Shape {
             ports,
             sets,
             lines,
-            scratch: Range { first: 0, count: 0 },
-            device: Range { first: 0, count: 0 },
+            scratch: Range {
+                first: scratch_first,
+                count: scratch_count,
+            },
+            device: Range {
+                first: device_first,
+                count: device_count,
+            },
         }
+    }
+
+    // A shape whose two ranges are empty.
+    pub fn unranged(ports: usize, sets: usize, lines: usize) -> Shape
+        ensures { result ≡ unranged ports sets lines }
+    {
+        Shape::new(ports, sets, lines, 0, 0, 0, 0)
     }
 
     // The sets are a power of two up to the limit.
     fn has_sets(self) -> bool
         ensures { result ≡ is_sets self.sets }
     {
-        let n = self.sets;
-        match n {
-            1 => true,
-            2 => true,
-            4 => true,
-            8 => true,
-            16 => true,
-            32 => true,
-            64 => true,
-            _ => false,
-        }
+        matches!(self.sets, 1 | 2 | 4 | 8 | 16 | 32 | 64)
     }
 
     // Ports, sets and lines are within their limits.
@@ -115,13 +120,14 @@ impl Shape {
 
     // The number of port p's entry at an index: the port's entries lie together, one for each index.
     pub fn entry_number(self, p: usize, index: usize) -> usize
-        requires self_value { in_range self ≡ true }
-        requires p_lt_ports { (p < self.ports) × (index < self.sets) }
+        requires shape { in_range self ≡ true }
+        requires there { (p < self.ports) × (index < self.sets) }
         ensures { (result ≡ entry_number self p index) × (result < entries self) }
     {
         p * self.sets + index
     }
 
+    // What main memory and the tables take in bytes: eight for a word, four for a tag, one for a state.
     pub fn sizes(self) -> Sizes
         requires { in_range self ≡ true }
         ensures { result ≡ sizes_of self }
@@ -135,14 +141,14 @@ impl Shape {
         }
     }
 
-    // The lengths of main memory and of the tables are those of the shape.
+    // A memory and tables of these sizes, in words and entries, are those of the shape.
     #[tactic(auto, unfolding(crate::specs::Shape::fits))]
-    fn is_fitting(self, memory: usize, tags: usize, states: usize, data: usize) -> bool
+    fn is_fitting(self, lent: Sizes) -> bool
         requires { in_range self ≡ true }
-        ensures { result ≡ fits self memory tags states «data» }
+        ensures { result ≡ fits self lent.memory lent.tags lent.states lent.«data» }
     {
         let n = self.entries();
-        (memory == self.lines) & (tags == n) & (states == n) & (data == n)
+        (lent.memory == self.lines) & (lent.tags == n) & (lent.states == n) & (lent.data == n)
     }
 
     // Both ranges are empty. One test, for it is on the way of every step.
@@ -162,29 +168,29 @@ impl Shape {
         self.scratch.ends_by(self.lines) & self.device.ends_by(self.lines)
     }
 
-    // Refusal 3, where the lengths do not fit; then 12, where a range ends beyond lines; else 0.
+    // Lengths that do not fit are told first, then a range that ends beyond lines.
     #[tactic(auto, unfolding(crate::specs::Shape::fit_refusal))]
-    pub fn fit_refusal(self, fit: bool) -> u64
-        ensures { result ≡ fit_refusal self fit }
+    pub fn check_fit(self, fit: bool) -> Result<(), Refusal>
+        ensures { refusal_in result ≡ fit_refusal self fit }
     {
         if !fit {
-            return 3;
+            return Err(Refusal::Lengths);
         }
-        if self.ranges_end() {
-            return 0;
+        if !self.ranges_end() {
+            return Err(Refusal::Range);
         }
-        12
+        Ok(())
     }
 
-    // Refusal 2, 3 or 12 of a shape and the lengths of main memory and the tables, else 0.
+    // The shape, and then what is lent: main memory and tables of these sizes, in words and entries.
     #[tactic(auto, unfolding(crate::specs::Shape::refusal_of))]
-    pub fn refusal(self, memory: usize, tags: usize, states: usize, data: usize) -> u64
-        ensures { result ≡ refusal_of self memory tags states «data» }
+    pub fn check(self, lent: Sizes) -> Result<(), Refusal>
+        ensures { refusal_in result ≡ refusal_of self lent.memory lent.tags lent.states lent.«data» }
     {
-        if self.is_in_range() {
-            return self.fit_refusal(self.is_fitting(memory, tags, states, data));
+        if !self.is_in_range() {
+            return Err(Refusal::Shape);
         }
-        2
+        self.check_fit(self.is_fitting(lent))
     }
 
     // The sets as a power of two.
@@ -192,42 +198,21 @@ impl Shape {
         requires { in_range self ≡ true }
         ensures { (2 ^ result ≡ self.sets) × (result ≤ 6) }
     {
-        let n = self.sets;
-        match n {
-            1 => 0,
-            2 => 1,
-            4 => 2,
-            8 => 3,
-            16 => 4,
-            32 => 5,
-            _ => 6,
-        }
+        self.sets.trailing_zeros() as usize
     }
 
     // By shifts and the bits below the sets' own: no division on the way of a step, and no product here.
-    fn split(self, a: usize) -> Split
-        requires { (in_range self ≡ true) × (a < self.lines) }
-        ensures { ((result.index ≡ a % self.sets) × (result.tag ≡ a / self.sets)) × (result.limit ≡ (self.lines + (self.sets - 1) - a % self.sets) / self.sets) }
-    {
-        let k = self.shift();
-        let most = self.sets - 1;
-        let index = a & most;
-        Split {
-            index,
-            tag: a >> k,
-            limit: (self.lines + most - index) >> k,
-        }
-    }
-
     pub fn place(self, a: usize) -> Place
         requires { (in_range self ≡ true) × (a < self.lines) }
         ensures { result ≡ place_of self a }
     {
-        let s = self.split(a);
+        let k = self.shift();
+        let most = self.sets - 1;
+        let index = a & most;
         Place {
-            index: s.index,
-            tag: s.tag as u32,
-            limit: s.limit as u32,
+            index,
+            tag: (a >> k) as u32,
+            limit: ((self.lines + most - index) >> k) as u32,
         }
     }
 }

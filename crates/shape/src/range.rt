@@ -3,7 +3,7 @@ ghost use Rattle.std.specs.Prelude.{◌≡◌};
 ghost use Rattle.shape.specs.Range.{inside, ends_by};
 
 // A first line, and how many lines there are from it on. With a count of 0 the range is empty, wherever it starts.
-#[derive(Clone, Copy)]
+#[derive(Clone, Copy, Debug, PartialEq, Eq)]
 pub struct Range {
     pub first: usize,
     pub count: usize,

@@ -1,55 +1,75 @@
--- A call that looks at its line: refusal 8, and what else comes of it. Assumes nothing.
+-- A call that looks at its line: its refusal, and what else comes of it. Assumes nothing.
 use Prim.Native.Nat.{ℕ, ◌<◌}
-use mathlib.Core.Path.{◌≡◌, refl, ap}
+use mathlib.Core.Path.{◌≡◌, refl, sym, ap}
 use mathlib.Core.Bool.{Bool, true, false, cond}
-use native.Mathlib.Omega.{arith}
+use Rattle.std.specs.Prelude.{Some, None, Ok, Err}
+use Rattle.std.specs.Option.{ok_or}
+use Rattle.std.specs.Result.{result_ok, result_err}
+use Rattle.std.proofs.lemmas.Option.{none-some, same_Some}
+use Rattle.refusals.specs.declared.Refusal.{Refusal}
+use Rattle.refusals.specs.declared.Refusal.TheVariants.{Entry}
 use Rattle.shape.specs.declared.Shape.{Shape}
 use Rattle.model.specs.declared.order.Call.{Call}
-use Rattle.model.specs.declared.order.Decoded.TheVariants.{Asked}
 use Rattle.model.specs.declared.answer.Answer.{Answer}
-use Rattle.model.specs.Order.{looks}
-use Rattle.model.specs.Tables.{sound, column_sound}
-use Rattle.model.specs.Step.{result, refused, called, perform}
+use Rattle.model.specs.Order.{Asked, looks}
+use Rattle.model.specs.Tables.{column_sound}
+use Rattle.model.specs.Step.{result, answer_of, called, perform}
 use Rattle.ports.specs.declared.survey.Look.{Look}
 use Rattle.ports.specs.Bytes.{Bytes, model_in, tables_in, Fitting}
 use Rattle.ports.specs.Line.{line_of, Placed}
 use Rattle.ports.specs.Masks.{masks_of, look_of}
 use Rattle.ports.proofs.Places.{placed}
+use Rattle.ports.proofs.Surveys.{sound_column}
 
--- A refusal of 8 or none.
-none_is : (b : Bool) {n : ℕ} → n ≡ cond b 0 8 → n ≡ 0 → b ≡ true
-none_is true e z = refl
-none_is false e z = absurd (omega arith)
+-- A value that a test lets through, and an error that it gives.
+let_through : {X : Type 0} (b : Bool) {x y : X} → Ok x ≡ ok_or (cond b (Some y) None) Entry → (b ≡ true) × (x ≡ y)
+let_through true e = (refl, same_Some _ _ (ap result_ok e))
+let_through false e = absurd (none-some _ (sym (ap result_ok e)))
 
-eight_is : (b : Bool) {n : ℕ} → n ≡ cond b 0 8 → (n ≡ 0 → ⊥) → (b ≡ false) × (n ≡ 8)
-eight_is true e z = absurd (z e)
-eight_is false e z = (refl, e)
+held_back : {X : Type 0} (b : Bool) {r : Refusal} (y : X) → Err r ≡ ok_or (cond b (Some y) None) Entry → (b ≡ false) × (r ≡ Entry)
+held_back true y e = absurd (none-some _ (ap result_ok e))
+held_back false y e = (refl, same_Some _ _ (ap result_err e))
 
-module _ (s : Shape) (a : ℕ) (b : Bytes) (fits : Fitting s b) (there : a < s.lines) {k : Look}
-    (e : k ≡ look_of s (tables_in s b.tags b.states b.words) a) where
-  refusal_is : k.refusal ≡ cond (column_sound s (model_in s b) a) 0 8
-  unfolding look_of column_sound sound tables_in model_in
-  refusal_is = ap (λ (k : Look). k.refusal) e
+module _ (s : Shape) (a : ℕ) (b : Bytes) (fits : Fitting s b) (there : a < s.lines) where
+  -- The call is refused, and nothing changes.
+  pub call_refused : {r : Refusal} → Err r ≡ ok_or (look_of s (tables_in s b.tags b.states b.words) a) Entry
+      → (c : Call) → looks c ≡ true → result (answer_of (Err r)) (model_in s b) ≡ perform s (model_in s b) (Asked c a)
+  unfolding perform look_of
+  call_refused e c look =
+      let h = held_back (column_sound s (tables_in s b.tags b.states b.words) a) _ e in rw (look, ← sound_column s b a, h.0, h.1)
 
-  -- No refusal: what an order on the line asks, by a device or by a port.
-  pub device_ready : k.refusal ≡ 0 → Fitting k.line.shape b × (Placed k.line
-      × ((k.said ≡ masks_of k.line.shape (tables_in k.line.shape b.tags b.states b.words) k.line.number) × (k.said.sound ≡ true)))
-  unfolding look_of masks_of line_of column_sound sound tables_in model_in
-  device_ready z = (rw e fits, (rw e (placed s a fits.range there refl), (rw e refl, rw e (none_is (column_sound s (model_in s b) a) refusal_is z))))
+  module _ {k : Look} (e : Ok k ≡ ok_or (look_of s (tables_in s b.tags b.states b.words) a) Entry) where
+    sound_is : column_sound s (tables_in s b.tags b.states b.words) a ≡ true
+    unfolding look_of
+    sound_is = (let_through (column_sound s (tables_in s b.tags b.states b.words) a) e).0
 
-  pub port_ready : k.refusal ≡ 0 → {i : ℕ} → i < s.ports → Fitting k.line.shape b × (Placed k.line × ((i < k.line.shape.ports)
-      × ((k.said ≡ masks_of k.line.shape (tables_in k.line.shape b.tags b.states b.words) k.line.number) × (k.said.sound ≡ true))))
-  unfolding look_of line_of
-  port_ready z p = let d = device_ready z in (d.0, (d.1.0, (rw e p, d.1.1)))
+    look_is : ◌≡◌ {A = Look} k (record { line = line_of s a; said = masks_of s (tables_in s b.tags b.states b.words) a })
+    unfolding look_of
+    look_is = (let_through (column_sound s (tables_in s b.tags b.states b.words) a) e).1
 
-  -- A call that looks at entries: refusal 8, or what the call does.
-  module _ (c : Call) (look : looks c ≡ true) where
-    pub call_refused : (k.refusal ≡ 0 → ⊥) → {r : Answer} → r ≡ refused k.refusal → result r (model_in s b) ≡ perform s (model_in s b) (Asked c a)
-    unfolding perform
-    call_refused z er = let n = eight_is (column_sound s (model_in s b) a) refusal_is z in rw (er, look, n.0, n.1)
+    -- What an order on the line asks.
+    pub look_fits : Fitting k.line.shape b
+    unfolding line_of
+    look_fits = rw look_is fits
 
-    pub call_done : k.refusal ≡ 0 → {r : Answer} (b' : Bytes)
+    pub look_placed : Placed k.line
+    look_placed = placed s a fits.range there (ap (λ (k : Look). k.line) look_is)
+
+    pub look_port : {i : ℕ} → i < s.ports → i < k.line.shape.ports
+    unfolding line_of
+    look_port h = rw look_is h
+
+    pub look_said : k.said ≡ masks_of k.line.shape (tables_in k.line.shape b.tags b.states b.words) k.line.number
+    unfolding line_of
+    look_said = rw look_is refl
+
+    pub look_sound : column_sound k.line.shape (tables_in k.line.shape b.tags b.states b.words) k.line.number ≡ true
+    unfolding line_of
+    look_sound = rw look_is sound_is
+
+    -- The call is done.
+    pub call_done : (c : Call) → looks c ≡ true → {r : Answer} (b' : Bytes)
         → result r (model_in k.line.shape b') ≡ called k.line.shape (model_in k.line.shape b) c k.line.number
         → result r (model_in s b') ≡ perform s (model_in s b) (Asked c a)
-    unfolding perform look_of line_of
-    call_done z b' p = rw (look, none_is (column_sound s (model_in s b) a) refusal_is z) (rw e at p)
+    unfolding perform line_of
+    call_done c look b' p = rw (look, ← sound_column s b a, sound_is) (rw look_is at p)

@@ -4,25 +4,21 @@ use mathlib.Core.Path.{◌≡◌, ◌∙◌}
 use borrow.Author.Tests.{eq-eqb}
 use Rattle.shape.specs.declared.Shape.{Shape}
 use Rattle.model.specs.declared.order.Call.{Call}
-use Rattle.model.specs.declared.order.Decoded.{Decoded}
-use Rattle.model.specs.declared.order.Decoded.TheVariants.{Asked, Refused}
+use Rattle.model.specs.Order.{Asked, Refused}
 use Rattle.model.specs.declared.answer.Answer.{Answer}
 use Rattle.model.specs.Order.{Order, decode, There}
 use Rattle.model.specs.Tables.{Model, lent_refusal}
 use Rattle.model.specs.Step.{Result, result, refused, perform, step}
 use Rattle.model.proofs.Decoded.{decode-sound}
-use Rattle.decode.specs.Order.{refusal_in}
 
 module _ (s : Shape) (o : Order) (t : Model) where
-  pub step-refused : lent_refusal s t ≡ 0 → {d : Decoded} {n k : ℕ} → d ≡ decode s o → d ≡ Refused n → k ≡ refusal_in d
-      → {r : Answer} → r ≡ refused k → result r t ≡ step s o t
+  pub step-refused : lent_refusal s t ≡ 0 → {n : ℕ} → Refused n ≡ decode s o → {r : Answer} → r ≡ refused n → result r t ≡ step s o t
   unfolding step perform
-  step-refused h e f g i = rw (i, g, f, eq-eqb (lent_refusal s t) 0 h, ← e, f)
+  step-refused h e i = rw (i, eq-eqb (lent_refusal s t) 0 h, ← e)
 
-  pub step-asked : lent_refusal s t ≡ 0 → {d : Decoded} {c : Call} {a : ℕ} → d ≡ decode s o → d ≡ Asked c a → {x : Result}
-      → x ≡ perform s t (Asked c a) → x ≡ step s o t
+  pub step-asked : lent_refusal s t ≡ 0 → {c : Call} {a : ℕ} → Asked c a ≡ decode s o → {x : Result} → x ≡ perform s t (Asked c a) → x ≡ step s o t
   unfolding step
-  step-asked h e f g = g ∙ rw (eq-eqb (lent_refusal s t) 0 h, ← e, f)
+  step-asked h e g = g ∙ rw (eq-eqb (lent_refusal s t) 0 h, ← e)
 
-pub asked-there : (s : Shape) (o : Order) {d : Decoded} {c : Call} {a : ℕ} → d ≡ decode s o → d ≡ Asked c a → There s c a
-asked-there s o e f = rw (← e, f) at (decode-sound s o)
+pub asked-there : (s : Shape) (o : Order) {c : Call} {a : ℕ} → Asked c a ≡ decode s o → There s c a
+asked-there s o e = rw (← e) at (decode-sound s o)

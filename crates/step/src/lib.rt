@@ -2,15 +2,16 @@
 #![tactic(auto)]
 
 ghost use Rattle.std.specs.Prelude.{◌≡◌};
-ghost use Rattle.model.specs.Order.{There};
-ghost use Rattle.model.specs.Step.{result as step_result, perform, step};
+ghost use Rattle.model.specs.Order.{Asked, There};
+ghost use Rattle.model.specs.Step.{result as step_result, answer_of, perform, step};
 ghost use Rattle.decode.specs.Order.{order};
 ghost use Rattle.ports.specs.Bytes.{bytes, model_in, Fitting};
 
 use caches::{access, device, flush};
 use model::answer::Answer;
-use model::order::{Call, Decoded};
+use model::order::Call;
 use ports::survey;
+use refusals::Refusal;
 use shape::Shape;
 
 // A call on line a. All but a device read look at the ports' entries, and may be refused for one. The look stands in each arm: in front of
@@ -23,35 +24,26 @@ fn perform_call(
     words: &mut [u8],
     call: Call,
     a: usize,
-) -> Answer
+) -> Result<Answer, Refusal>
     requires fitting { Fitting shape (bytes memory.old tags.old states.old words.old) }
     requires there { There shape call a }
-    ensures { step_result result (model_in shape (bytes memory.new tags.new states.new words.new))
+    ensures { step_result (answer_of result) (model_in shape (bytes memory.new tags.new states.new words.new))
         ≡ perform shape (model_in shape (bytes memory.old tags.old states.old words.old))
-        (Decoded.Asked call a) }
+        (Asked call a) }
 {
     match call {
         Call::ByPort(acc, m, i) => {
-            let look = survey::look_at(shape, tags, states, words, a);
-            if look.refusal != 0 {
-                return answers::refuse(look.refusal);
-            }
-            access::access_line(memory, tags, states, words, look.line, i, look.said, acc, m)
+            let look = survey::look_at(shape, tags, states, words, a)?;
+            Ok(access::access_line(memory, tags, states, words, look.line, i, look.said, acc, m))
         }
         Call::Flush(i) => {
-            let look = survey::look_at(shape, tags, states, words, a);
-            if look.refusal != 0 {
-                return answers::refuse(look.refusal);
-            }
-            flush::flush_line(memory, tags, states, words, look.line, i, look.said)
+            let look = survey::look_at(shape, tags, states, words, a)?;
+            Ok(flush::flush_line(memory, tags, states, words, look.line, i, look.said))
         }
-        Call::DeviceRead => device::device_read(memory, a),
+        Call::DeviceRead => Ok(device::device_read(memory, a)),
         Call::DeviceWrite(mask, x) => {
-            let look = survey::look_at(shape, tags, states, words, a);
-            if look.refusal != 0 {
-                return answers::refuse(look.refusal);
-            }
-            device::device_write(memory, tags, states, words, look.line, look.said, mask, x)
+            let look = survey::look_at(shape, tags, states, words, a)?;
+            Ok(device::device_write(memory, tags, states, words, look.line, look.said, mask, x))
         }
     }
 }
@@ -71,9 +63,12 @@ pub fn step_order(
         ≡ step shape (order w x)
         (model_in shape (bytes memory.old tags.old states.old words.old)) }
 {
-    let d = decode::decode_order(shape, w, x);
-    let Decoded::Asked(call, a) = d else {
-        return answers::refuse(decode::refusal_of(d));
+    let decoded = decode::decode_order(shape, w, x);
+    let Ok((call, a)) = decoded else {
+        return answers::refuse(refusals::number_of(decoded));
     };
-    perform_call(shape, memory, tags, states, words, call, a)
+    match perform_call(shape, memory, tags, states, words, call, a) {
+        Ok(answer) => answer,
+        Err(refusal) => answers::refuse(u64::from(refusal)),
+    }
 }

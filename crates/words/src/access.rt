@@ -5,7 +5,7 @@ ghost use Rattle.words.specs.Access.{effect_at, is_write, is_swap, mask_of, oper
 use crate::{choose, word};
 
 // A write's mask and operand; a compare-and-swap's mask, operand and compare value.
-#[derive(Clone, Copy)]
+#[derive(Clone, Copy, Debug, PartialEq, Eq)]
 pub enum Access {
     Read,
     Write(u8, u64),
@@ -14,7 +14,7 @@ pub enum Access {
 
 // What an access comes to once the word is known: a read, or a swap that fails; a write, or a swap that succeeds, which changes the word; or
 // one that leaves the word as it was (a silent store).
-#[derive(Clone, Copy)]
+#[derive(Clone, Copy, Debug, PartialEq, Eq)]
 pub enum Outcome {
     Reads,
     Writes,
@@ -22,7 +22,7 @@ pub enum Outcome {
 }
 
 // What an access does at a word: its outcome, the line's word afterwards, and the answer's value and swapped mark.
-#[derive(Clone, Copy)]
+#[derive(Clone, Copy, Debug, PartialEq, Eq)]
 pub struct Effect {
     pub outcome: Outcome,
     pub word: u64,
@@ -33,21 +33,13 @@ pub struct Effect {
 fn is_write(a: Access) -> bool
     ensures { result ≡ is_write a }
 {
-    match a {
-        Access::Read => false,
-        Access::Write(_, _) => true,
-        Access::Swap(_, _, _) => false,
-    }
+    matches!(a, Access::Write(_, _))
 }
 
 fn is_swap(a: Access) -> bool
     ensures { result ≡ is_swap a }
 {
-    match a {
-        Access::Read => false,
-        Access::Write(_, _) => false,
-        Access::Swap(_, _, _) => true,
-    }
+    matches!(a, Access::Swap(_, _, _))
 }
 
 // The mask and the operand to merge by. A read merges nothing: it has the full mask, at which a merge is short.
@@ -56,8 +48,7 @@ fn mask_of(a: Access) -> u8
 {
     match a {
         Access::Read => 0xFF,
-        Access::Write(mask, _) => mask,
-        Access::Swap(mask, _, _) => mask,
+        Access::Write(mask, _) | Access::Swap(mask, _, _) => mask,
     }
 }
 
@@ -66,8 +57,7 @@ fn operand_of(a: Access) -> u64
 {
     match a {
         Access::Read => 0,
-        Access::Write(_, x) => x,
-        Access::Swap(_, x, _) => x,
+        Access::Write(_, x) | Access::Swap(_, x, _) => x,
     }
 }
 
@@ -75,8 +65,7 @@ fn compare_of(a: Access) -> u64
     ensures { result ≡ compare_of a }
 {
     match a {
-        Access::Read => 0,
-        Access::Write(_, _) => 0,
+        Access::Read | Access::Write(_, _) => 0,
         Access::Swap(_, _, compare) => compare,
     }
 }
@@ -85,13 +74,11 @@ fn compare_of(a: Access) -> u64
 fn outcome_of(writes: bool, same: bool) -> Outcome
     ensures { result ≡ outcome_of writes same }
 {
-    if writes {
-        if same {
-            return Outcome::Rewrites;
-        }
-        return Outcome::Writes;
+    match (writes, same) {
+        (false, _) => Outcome::Reads,
+        (true, false) => Outcome::Writes,
+        (true, true) => Outcome::Rewrites,
     }
-    Outcome::Reads
 }
 
 // What an access does at the word w. It takes no jump on the access's kind: the kinds of successive orders follow no pattern.
@@ -106,8 +93,8 @@ pub fn effect_at(a: Access, w: u64) -> Effect
     let merge = word::merged(mask, w, operand_of(a));
     Effect {
         outcome: outcome_of(writes, !merge.changed),
-        word: choose::choose_word(writes, merge.word, w),
-        value: choose::choose_word(write, 0, w),
+        word: choose::choose(writes, merge.word, w),
+        value: choose::choose(write, 0, w),
         swapped,
     }
 }

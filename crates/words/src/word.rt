@@ -3,7 +3,7 @@ ghost use Rattle.std.specs.Prelude.{◌≡◌, cond, eqb, ◌%◌, ◌<◌};
 ghost use Rattle.words.specs.Word.{half, merge, merged};
 
 // A merge: the word after it, and whether that is another word than before.
-#[derive(Clone, Copy)]
+#[derive(Clone, Copy, Debug, PartialEq, Eq)]
 pub struct Merge {
     pub word: u64,
     pub changed: bool,

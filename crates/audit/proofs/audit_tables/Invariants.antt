@@ -1,5 +1,4 @@
 -- The loop goes on while the indices pass. Assumes nothing.
-use Rattle.std.proofs.Common.{◌-◌}
 use Rattle.ports.specs.Bytes.{bytes, model_in}
 use Rattle.audit.specs.Entries.{index_passes}
 use Rattle.model.proofs.Loops.{Passing}
@@ -7,6 +6,3 @@ use Rattle.audit.proofs.audit_tables.Given as goal
 
 abbrev pub invariant-loop-x : goal.invariant-loop-x
 invariant-loop-x l = Passing (index_passes l.shape (model_in l.shape (bytes l.memory l.tags l.states l.words))) l.shape.sets l.x
-
-abbrev pub decreases-loop-x : goal.decreases-loop-x
-decreases-loop-x l = l.sets - l.x

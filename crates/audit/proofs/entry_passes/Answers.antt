@@ -12,7 +12,7 @@ unfolding held_at model_in tables_in
 returns-then-e-lt8 c = search tested_free
 
 pub home_of-home-requires : goal.home_of-home-requires
-home_of-home-requires c = ((bounded _ c.requires.fitting.range).sets-most, c.requires.x_lt_sets.0)
+home_of-home-requires c = ((bounded _ c.requires.fitting.range).sets-most, c.requires.there.0)
 
 pub returns-then-home-shape : goal.returns-then-home-shape
 unfolding held_at model_in tables_in

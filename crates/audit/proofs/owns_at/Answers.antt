@@ -5,4 +5,4 @@ use Rattle.audit.proofs.owns_at.Goals as goal
 
 pub returns : goal.returns
 unfolding owns_at
-returns c = rw (c.is_owner.ensures, c.class_of.ensures, tag_is _ _ c.requires.k_bound c.tag_at.ensures)
+returns c = rw (c.is_owner.ensures, c.class_of.ensures, tag_is _ _ c.requires.entry c.tag_at.ensures)

@@ -8,10 +8,10 @@ use Rattle.audit.proofs.pair_passes.Goals as goal
 pub returns-then-tag_at-e : goal.returns-then-tag_at-e
 unfolding tables_in
 returns-then-tag_at-e c =
-    pair_away _ _ _ (λ same. c.if-tag_at-e.true (sym (tag_is _ _ c.requires.k_bound c.tag_at.ensures) ∙ same))
+    pair_away _ _ _ (λ same. c.if-tag_at-e.true (sym (tag_is _ _ c.requires.entry c.tag_at.ensures) ∙ same))
 
 pub returns : goal.returns
 unfolding tables_in
 returns c =
-    pair_here _ _ _ (tag_is _ _ c.requires.k_bound c.tag_at.ensures ∙ c.if-tag_at-e.false) c.held_at-f.ensures
+    pair_here _ _ _ (tag_is _ _ c.requires.entry c.tag_at.ensures ∙ c.if-tag_at-e.false) c.held_at-f.ensures
     c.goes_with.ensures

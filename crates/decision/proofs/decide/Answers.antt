@@ -6,8 +6,8 @@ use Rattle.ports.proofs.Surveys.{masks_holders, masks_owners, masks_hit, masks_d
 use Rattle.decision.proofs.Decisions.{chosen_state, entry_state, decide_done}
 use Rattle.decision.proofs.decide.Goals as goal
 
-pub entry_number-at-requires-clause-p_lt_ports : goal.entry_number-at-requires-clause-p_lt_ports
-entry_number-at-requires-clause-p_lt_ports c = (c.requires.i_lt_ports, omega (arith, index_below c.requires.placed))
+pub entry_number-at-requires-clause-there : goal.entry_number-at-requires-clause-there
+entry_number-at-requires-clause-there c = (c.requires.port, omega (arith, index_below c.requires.placed))
 
 pub overflow_shr-own : goal.overflow_shr-own
 overflow_shr-own c = omega (arith, few c.requires.placed)
@@ -15,15 +15,15 @@ overflow_shr-own c = omega (arith, few c.requires.placed)
 pub overflow_shl-others : goal.overflow_shl-others
 overflow_shl-others c = omega (arith, few c.requires.placed)
 
-pub find_word-found-requires-clause-owners_value : goal.find_word-found-requires-clause-owners_value
-find_word-found-requires-clause-owners_value c = masks_owners _ _ _ c.requires.said_value.0
+pub find_word-found-requires-clause-owners : goal.find_word-found-requires-clause-owners
+find_word-found-requires-clause-owners c = masks_owners _ _ _ c.requires.said
 
 -- The byte chosen, the own entry's or that of I, is the code of a state.
 pub own_rule-r-requires : goal.own_rule-r-requires
 own_rule-r-requires c =
     let r = c.requires in
-    chosen_state (nat_eq (c.args.said.holders / 2 ^ c.args.i % 2) 1) _ c.state_byte.ensures c.choose_byte-byte.ensures
-    (entry_state r.placed _ _ _ _ r.i_lt_ports c.entry_number-at.ensures.0 c.entry_at-e.ensures r.said_value.0 r.said_value.1)
+    chosen_state (nat_eq (c.args.said.holders / 2 ^ c.args.i % 2) 1) _ c.from.ensures c.choose-byte.ensures
+    (entry_state r.placed _ _ _ _ r.port c.entry_number-at.ensures.0 c.entry_at-e.ensures r.sound)
 
 pub home_of-home-requires : goal.home_of-home-requires
 home_of-home-requires c = sets_small c.requires.placed
@@ -31,9 +31,9 @@ home_of-home-requires c = sets_small c.requires.placed
 pub returns : goal.returns
 returns c =
     let r = c.requires in
-    let p = r.said_value.0 in
-    decide_done r.placed _ _ _ _ r.i_lt_ports c.entry_number-at.ensures.0 c.entry_at-e.ensures
-    c.byte_state.ensures c.is_owner.ensures _ _ _ (masks_hit _ _ _ p _ r.i_lt_ports)
-    (bit_away _ _ _ (masks_holders _ _ _ p) r.i_lt_ports (few r.placed)).1 (masks_dirty _ _ _ p)
-    c.find_word-found.ensures c.effect_at-effect.ensures c.state_byte.ensures c.choose_byte-byte.ensures c.own_rule-r.ensures
+    let p = r.said in
+    decide_done r.placed _ _ _ _ r.port c.entry_number-at.ensures.0 c.entry_at-e.ensures
+    c.is_owner.ensures _ _ _ (masks_hit _ _ _ p _ r.port)
+    (bit_away _ _ _ (masks_holders _ _ _ p) r.port (few r.placed)).1 (masks_dirty _ _ _ p)
+    c.find_word-found.ensures c.effect_at-effect.ensures c.from.ensures c.choose-byte.ensures c.own_rule-r.ensures
     c.home_of-home.ensures c.accept.ensures

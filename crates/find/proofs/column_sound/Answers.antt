@@ -3,11 +3,11 @@ use Rattle.model.specs.Tables.{column_sound}
 use Rattle.model.proofs.Loops.{passing_none, passing_fails, passing_more, passing_done}
 use Rattle.find.proofs.column_sound.Goals as goal
 
-pub loop-q-init : goal.loop-q-init
-loop-q-init c = passing_none _ _
+pub loop-p-init : goal.loop-p-init
+loop-p-init c = passing_none _ _
 
-pub loop-q-preserved : goal.loop-q-preserved
-loop-q-preserved c = search passing_more
+pub loop-p-preserved : goal.loop-p-preserved
+loop-p-preserved c = search passing_more
 
 pub returns-then-not-sound_at : goal.returns-then-not-sound_at
 unfolding column_sound

@@ -1,11 +1,8 @@
 -- No port below p holds the line. Assumes nothing.
-use Rattle.std.proofs.Common.{[], ◌-◌}
+use Rattle.std.proofs.Common.{[]}
 use Rattle.model.specs.Tables.{model, holds}
 use Rattle.model.proofs.Loops.{Searching}
 use Rattle.find.proofs.first_holder.Given as goal
 
 abbrev pub invariant-loop-p : goal.invariant-loop-p
 invariant-loop-p l = Searching (holds l.fn.shape (model [] l.fn.tags l.fn.states []) l.fn.a) l.fn.shape.ports l.p
-
-abbrev pub decreases-loop-p : goal.decreases-loop-p
-decreases-loop-p l = l.ports - l.p

@@ -5,8 +5,8 @@ use Rattle.ports.proofs.Places.{index_below}
 use Rattle.caches.proofs.Carried.{carry_done}
 use Rattle.caches.proofs.access.carry_out.Goals as goal
 
-pub entry_number-at-requires-clause-p_lt_ports : goal.entry_number-at-requires-clause-p_lt_ports
-entry_number-at-requires-clause-p_lt_ports c = (c.requires.i_lt_ports, omega (arith, index_below c.requires.placed))
+pub entry_number-at-requires-clause-there : goal.entry_number-at-requires-clause-there
+entry_number-at-requires-clause-there c = (c.requires.port, omega (arith, index_below c.requires.placed))
 
 pub returns : goal.returns
 returns c =

@@ -2,7 +2,7 @@
 use Rattle.std.proofs.Common.{arith}
 use Rattle.ports.specs.Bytes.{tables_in}
 use Rattle.ports.proofs.Places.{few, index_below}
-use Rattle.ports.proofs.Surveys.{masks_hit, masks_own, masks_states}
+use Rattle.ports.proofs.Surveys.{masks_hit, masks_own, sound_states}
 use Rattle.decision.proofs.Supplied.{entry_word}
 use Rattle.caches.proofs.Flushes.{flush_done}
 use Rattle.caches.proofs.flush.flush_line.Goals as goal
@@ -13,15 +13,15 @@ overflow_shr-held c = omega (arith, few c.requires.placed)
 pub overflow_shr-stores : goal.overflow_shr-stores
 overflow_shr-stores c = omega (arith, few c.requires.placed)
 
-pub entry_number-at-requires-clause-p_lt_ports : goal.entry_number-at-requires-clause-p_lt_ports
-entry_number-at-requires-clause-p_lt_ports c = (c.requires.i_lt_ports, omega (arith, index_below c.requires.placed))
+pub entry_number-at-requires-clause-there : goal.entry_number-at-requires-clause-there
+entry_number-at-requires-clause-there c = (c.requires.port, omega (arith, index_below c.requires.placed))
 
 pub returns : goal.returns
 unfolding tables_in
 returns c =
     let v = c.requires.placed in
     let n = c.entry_number-at.ensures in
-    let port = c.requires.i_lt_ports in
-    let said = c.requires.said_value in
-    flush_done v _ _ _ _ _ port (masks_states _ _ _ said.0 said.1) _ _ (masks_hit _ _ _ said.0 _ port) (masks_own _ _ _ said.0 _ port)
+    let port = c.requires.port in
+    let said = c.requires.said in
+    flush_done v _ _ _ _ _ port (sound_states _ _ _ c.requires.sound) _ _ (masks_hit _ _ _ said _ port) (masks_own _ _ _ said _ port)
     (entry_word v c.requires.fitting.filled _ n c.word_at-w.ensures) n.0 c.empty_if.ensures c.store_if.ensures c.accept.ensures

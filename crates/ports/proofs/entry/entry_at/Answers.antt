@@ -4,4 +4,4 @@ use Rattle.ports.proofs.Places.{entry_is}
 use Rattle.ports.proofs.entry.entry_at.Goals as goal
 
 pub returns : goal.returns
-returns c = entry_is c.requires.filled c.requires.k_bound c.tag_at.ensures refl c.word_at.ensures
+returns c = entry_is c.requires.filled c.requires.entry c.tag_at.ensures refl c.word_at.ensures

@@ -6,4 +6,4 @@ pub lanes_at-requires : goal.lanes_at-requires
 lanes_at-requires c = search tag_below
 
 pub returns : goal.returns
-returns c = rw (c.lanes_at.ensures, ← tag_read c.requires.filled c.requires.k_bound c.tag_at.ensures)
+returns c = rw (c.lanes_at.ensures, ← tag_read c.requires.filled c.requires.entry c.tag_at.ensures)

@@ -1,18 +1,23 @@
--- The line by `line_of`, the survey of it, and the refusal. Assumes nothing.
+-- The line by `line_of`, and the survey of it. Assumes nothing.
+use Rattle.std.proofs.lemmas.Result.{err_from_is_err_and}
 use Rattle.ports.specs.Line.{line_of}
-use Rattle.ports.specs.Masks.{masks_of, look_of}
 use Rattle.ports.proofs.Places.{placed}
+use Rattle.ports.proofs.Surveys.{looked}
 use Rattle.ports.proofs.survey.look_at.Goals as goal
 
-pub survey_ports-said-requires : goal.survey_ports-said-requires
+pub survey_ports-requires-clause-filled : goal.survey_ports-requires-clause-filled
 unfolding line_of
-survey_ports-said-requires c =
-    let e = c.line_of-line.ensures in
-    record {
-      filled = rw e c.requires.filled;
-      placed = placed _ _ c.requires.shape_value.0 c.requires.shape_value.1 e;
-    }
+survey_ports-requires-clause-filled c = rw c.line_of-line.ensures c.requires.filled
+
+pub survey_ports-requires-clause-placed : goal.survey_ports-requires-clause-placed
+survey_ports-requires-clause-placed c = placed _ _ c.requires.there.0 c.requires.there.1 c.line_of-line.ensures
+
+pub returns-in_err-said : goal.returns-in_err-said
+unfolding line_of
+returns-in_err-said c =
+    let p = err_from_is_err_and c.from_residual.result c.from_residual.ensures.1 in
+    rw (p.1, p.2) (looked _ _ _ (rw c.line_of-line.ensures at c.in_err-said.ensures))
 
 pub returns : goal.returns
-unfolding look_of masks_of line_of
-returns c = rw (c.choose_word-refusal.ensures, c.survey_ports-said.ensures, c.line_of-line.ensures)
+unfolding line_of
+returns c = rw c.line_of-line.ensures (looked _ _ _ (rw c.line_of-line.ensures at c.in_ok-said.ensures))

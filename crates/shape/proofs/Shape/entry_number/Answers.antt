@@ -6,8 +6,8 @@ use Rattle.shape.proofs.Shape.entry_number.Goals as goal
 
 pub overflow_mul-result : goal.overflow_mul-result
 overflow_mul-result c =
-    let b = bounded c.args.self c.requires.self_value in omega (arith, digits_lt c.requires.p_lt_ports.0 c.requires.p_lt_ports.1)
+    let b = bounded c.args.self c.requires.shape in omega (arith, digits_lt c.requires.there.0 c.requires.there.1)
 
 pub overflow_add-result : goal.overflow_add-result
 overflow_add-result c =
-    let b = bounded c.args.self c.requires.self_value in omega (arith, digits_lt c.requires.p_lt_ports.0 c.requires.p_lt_ports.1)
+    let b = bounded c.args.self c.requires.shape in omega (arith, digits_lt c.requires.there.0 c.requires.there.1)

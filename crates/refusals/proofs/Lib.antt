@@ -1,0 +1,2 @@
+-- Laws of the refusals' numbers that proofs above cite.
+pub mod Numbers
