@@ -20,13 +20,6 @@ pub fn refuse(n: u64) -> Answer
     }
 }
 
-// 1 for true, and 0.
-fn number(b: bool) -> u64
-    ensures { (result ≡ bit b) × (result ≤ 1) }
-{
-    if b { 1 } else { 0 }
-}
-
 // The numbers of an accepted order: its value, whether it swapped, whether it fetched memory's word, and its two stores.
 pub fn accept(value: u64, swapped: bool, fetches: bool, evicts: bool, stores: bool) -> Answer
     ensures { result ≡ accepted value (bit swapped) (bit fetches) (bit evicts + bit stores) }
@@ -34,9 +27,9 @@ pub fn accept(value: u64, swapped: bool, fetches: bool, evicts: bool, stores: bo
     Answer {
         refusal: 0,
         value,
-        swapped: number(swapped),
-        reads: number(fetches),
-        writes: number(evicts) + number(stores),
+        swapped: u64::from(swapped),
+        reads: u64::from(fetches),
+        writes: u64::from(evicts) + u64::from(stores),
     }
 }
 

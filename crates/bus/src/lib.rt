@@ -80,10 +80,8 @@ fn passed(k: usize, sets: usize, ports: usize) -> usize
     ensures { result ≡ ports * sets + k }
 {
     let mut at = k;
-    let mut left = ports;
-    while left != 0 {
+    for p in 0..ports {
         at += sets;
-        left -= 1;
     }
     at
 }

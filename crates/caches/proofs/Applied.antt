@@ -2,12 +2,16 @@
 use Prim.Native.Nat.{ℕ, zero, ◌*◌, ◌^◌, ◌<◌}
 use mathlib.Core.Path.{◌≡◌, refl, ap}
 use mathlib.Core.Logic.{◌≢◌}
-use mathlib.Core.Bool.{Bool, true}
+use mathlib.Core.Bool.{Bool, true, false}
 use mathlib.Core.List.{List}
 use native.Mathlib.Omega.{arith}
 use lib.ListN.{get_or, set, length}
 use lib.Seq.{sets}
 use borrow.Author.Tests.{eq-eqb, ne_eqb, ltb-true}
+use Rattle.std.specs.Prelude.{Option, Some, IfSome}
+use Rattle.std.specs.Bool.{then_some}
+use Rattle.decision.specs.declared.Store.{Store}
+use Rattle.decision.specs.Decision.{store_of}
 use Rattle.endian.specs.Little.{numbers, bytes_of}
 use Rattle.endian.proofs.Little.{set-numbers}
 use Rattle.words.proofs.Bools.{Is, and_r}
@@ -27,10 +31,20 @@ use Rattle.ports.proofs.Bytes.{model_eq}
 use Rattle.model.proofs.Puts.{own_last}
 
 -- A store in memory's bytes is a store in its words.
-pub stored : (n : ℕ) (m : List ℕ) {m' : List ℕ} {on : Bool} {k w : ℕ} → on ≡ true → length m ≡ 8 * n → k < n → w < 2 ^ 64
-    → m' ≡ sets m (8 * k) (bytes_of 8 w)
-    → numbers 8 n m' ≡ store on k w (numbers 8 n m)
-stored n m {k = k} {w = w} o l q f e = rw (o, e) (set-numbers 8 n k w m q (omega arith) (omega (arith, l)))
+pub stored : (n : ℕ) (m : List ℕ) {m' : List ℕ} {o : Option Store} {x : Store} → o ≡ Some x → length m ≡ 8 * n → IfSome o (λ x. x.line < n)
+    → x.word < 2 ^ 64 → m' ≡ sets m (8 * x.line) (bytes_of 8 x.word) → numbers 8 n m' ≡ store_of o (numbers 8 n m)
+stored n m {x = x} o l q f e =
+    let below : x.line < n = rw o at q in rw (o, e) (set-numbers 8 n x.line x.word m below (omega arith) (omega (arith, l)))
+
+-- A store by a test.
+pub store_then : (b : Bool) (x : Store) {o : Option Store} → o ≡ then_some b x → (l : List ℕ) → store_of o l ≡ store b x.line x.word l
+store_then true x e l = rw e refl
+store_then false x e l = rw e refl
+
+-- The line of a store by a test is there, where it is there if the test says yes.
+pub line_then : (b : Bool) (x : Store) (n : ℕ) → (b ≡ true → x.line < n) → IfSome (then_some b x) (λ x. x.line < n)
+line_then true x n h = h refl
+line_then false x n h = tt
 
 -- Memory and the tables, held together.
 pub held_together : (s : Shape) (b : Bytes) {x : List ℕ} {t : Model} → numbers 8 s.lines b.memory ≡ x

@@ -17,14 +17,13 @@ use Rattle.protocol.proofs.Rows.{bus_below, bus_at_lem}
 use Rattle.shape.specs.declared.Shape.{Shape}
 use Rattle.shape.specs.Shape.{entry_number, entry_of}
 use Rattle.model.specs.Tables.{Model, seen, word_at, holds, column_sound}
-use Rattle.model.specs.Step.{result, store, byte_answered, word_answered, word_found, evicts_owner, applied, access_rule}
+use Rattle.model.specs.Step.{result, byte_answered, word_answered, word_found, victim, evicts_owner, applied, access_rule}
 use Rattle.model.specs.Step.{accessed}
 use Rattle.ports.specs.declared.line.Line.{Line}
-use Rattle.ports.specs.declared.survey.Masks.{Masks}
 use Rattle.ports.specs.Bytes.{Bytes, model_in, tables_in}
 use Rattle.ports.specs.Entry.{put_at}
 use Rattle.ports.specs.Line.{Placed}
-use Rattle.ports.specs.Masks.{ports_from, in_mask, masks_of}
+use Rattle.ports.specs.Masks.{ports_from, in_mask}
 use Rattle.bus.specs.Bus.{answered}
 use Rattle.ports.proofs.Masks.{in_mask_lem, of_holders}
 use Rattle.ports.proofs.Places.{some, number_is}
@@ -32,7 +31,8 @@ use Rattle.ports.proofs.Surveys.{sound_column}
 use Rattle.decision.specs.declared.Decision.{Decision}
 use Rattle.decision.specs.Decision.{other, decided}
 use Rattle.caches.specs.Carried.{Founded, carried}
-use Rattle.caches.proofs.Applied.{held_together, home_there, put_ruled}
+use Rattle.decision.specs.Decision.{store_of}
+use Rattle.caches.proofs.Applied.{store_then, line_then, held_together, home_there, put_ruled}
 
 -- A decision carried out is the access.
 carried_accessed : (s : Shape) (pos : zero < s.sets) (t : Model) (i a : ℕ) → i < s.ports → (acc : Access) (m : Mode)
@@ -42,6 +42,8 @@ carried_accessed s pos t i a port acc m =
     let e : Effect = effect_at acc (word_found s t i a) in
     let r : Rule = access_rule s t i a m e in
     rw (
+      store_then r.stores (record { line = a; word = e.word }) refl _,
+      store_then (evicts_owner s t i a) (record { line = victim s t i a; word = word_at s t a i }) refl _,
       bus_at_lem r.bus,
       put_ruled s pos t i a port r e.word (in_mask (ports_from (other s t i a) 0 s.ports))
           (λ p h d. in_mask_lem (other s t i a) s.ports refl p h ∙ rw (ne_eqb p i d)) refl,
@@ -53,8 +55,8 @@ pub carry_done : {l : Line} → Placed l → (b b' : Bytes) (i : ℕ) (d : Decis
     l.shape.ports
     → {k : ℕ} → k ≡ entry_number l.shape i l.place.index
     → tables_in l.shape b'.tags b'.states b'.words ≡ put_at u k d.entry
-    → {m₁ : List ℕ} → m₁ ≡ store d.evicts d.home d.evicted (numbers 8 l.shape.lines b.memory)
-    → numbers 8 l.shape.lines b'.memory ≡ store d.stores l.number d.entry.word m₁
+    → {m₁ : List ℕ} → m₁ ≡ store_of d.evicted (numbers 8 l.shape.lines b.memory)
+    → numbers 8 l.shape.lines b'.memory ≡ store_of d.stored m₁
     → model_in l.shape b' ≡ carried l.shape (model_in l.shape b) i l.number d
 unfolding carried answered byte_answered word_answered put_at word_at seen tables_in model_in
 carry_done {l} v b b' i d ea ek ep e₁ e₂ =
@@ -63,7 +65,7 @@ carry_done {l} v b b' i d ea ek ep e₁ e₂ =
     let now : Model = answered s (tables_in s b.tags b.states b.words) a (in_mask d.others) (bus_at d.bus) d.entry.word s.ports in
     let tables : tables_in s b'.tags b'.states b'.words ≡ put_at now (entry_of s a i) d.entry = ep ∙ rw (ea, ek, number_is v i) in
     let memory : numbers 8 s.lines b'.memory
-    ≡ store d.stores a d.entry.word (store d.evicts d.home d.evicted (numbers 8 s.lines b.memory)) = e₂ ∙ rw e₁ in
+    ≡ store_of d.stored (store_of d.evicted (numbers 8 s.lines b.memory)) = e₂ ∙ rw e₁ in
     held_together s b' memory tables
 
 module _ {l : Line} (v : Placed l) (b : Bytes) (i : ℕ) (port : i < l.shape.ports) (acc : Access) (m : Mode) {d : Decision}
@@ -77,8 +79,9 @@ module _ {l : Line} (v : Placed l) (b : Bytes) (i : ℕ) (port : i < l.shape.por
       rw e (record {
         mask = of_holders l.shape _ l.number (other l.shape t i l.number) (λ p. and_r (not (eqb p i)) _) refl;
         command = bus_below _;
-        home = λ h. home_there l.shape t i l.number port (sym (sound_column l.shape b l.number) ∙ u)
-            (and_r (not (holds l.shape t l.number i)) _ h);
+        home = line_then _ _ _ (λ h. home_there l.shape t i l.number port (sym (sound_column l.shape b l.number) ∙ u)
+            (and_r (not (holds l.shape t l.number i)) _ h));
+        line = line_then _ _ _ (λ h. v.below);
       })
 
   -- Carried out, it is the access.

@@ -41,8 +41,8 @@ fn carry_out(
     bus::ask(tags, states, words, line, d.others, d.bus, e.word);
     let at = shape.entry_number(i, line.place.index);
     entry::put_entry(shape, tags, states, words, at, e);
-    memory::store_if(memory, shape.lines, d.evicts, d.home, d.evicted);
-    memory::store_if(memory, shape.lines, d.stores, line.number, e.word);
+    memory::store(memory, shape.lines, d.evicted);
+    memory::store(memory, shape.lines, d.stored);
 }
 
 // The access by port i, from what the ports say of the line; every entry is sound.

@@ -8,7 +8,7 @@ ghost use Rattle.ports.specs.Line.{Placed};
 ghost use Rattle.ports.specs.Masks.{masks_of};
 
 use crate::memory;
-use decision::supply;
+use decision::{Store, supply};
 use model::answer::Answer;
 use ports::entry;
 use ports::line::Line;
@@ -50,6 +50,10 @@ pub fn device_write(
     let w = merge.word;
     let command = rules::invalidate();
     bus::ask(tags, states, words, line, said.holders, command, w);
-    memory::store_if(memory, line.shape.lines, true, line.number, w);
+    let stored = Store {
+        line: line.number,
+        word: w,
+    };
+    memory::store(memory, line.shape.lines, Some(stored));
     answers::accept(0, false, !dirty, false, true)
 }

@@ -9,6 +9,7 @@ ghost use Rattle.ports.specs.Line.{Placed};
 ghost use Rattle.ports.specs.Masks.{masks_of};
 
 use crate::memory;
+use decision::Store;
 use model::answer::Answer;
 use ports::entry;
 use ports::line::Line;
@@ -50,6 +51,10 @@ pub fn flush_line(
     let at = line.shape.entry_number(i, line.place.index);
     let w = entry::word_at(words, at);
     empty_if(states, held, at);
-    memory::store_if(memory, line.shape.lines, stores, line.number, w);
+    let stored = stores.then_some(Store {
+        line: line.number,
+        word: w,
+    });
+    memory::store(memory, line.shape.lines, stored);
     answers::accept(0, false, false, false, stores)
 }

@@ -6,6 +6,9 @@ use mathlib.Core.List.{List}
 use lib.ListN.{get_or}
 use lib.Dec.{eqb}
 use borrow.Author.Tests.{not-true}
+use Rattle.std.specs.Prelude.{Option}
+use Rattle.std.specs.Bool.{then_some}
+use Rattle.decision.specs.declared.Store.{Store}
 use Rattle.words.specs.declared.access.Access.{Access}
 use Rattle.words.specs.declared.access.Effect.{Effect}
 use Rattle.words.specs.Bools.{bit}
@@ -92,18 +95,18 @@ module _ {l : Line} (v : Placed l) (g h d : List ℕ) (i : ℕ) (port : i < l.sh
           → {r : Coded} → r ≡ coded (rule k.outcome m (not (eqb others 0)) dirt (or_invalid (state_of x)))
           → {home : ℕ} → home ≡ e.tag * s.sets + l.place.index
           → {n : Answer} → n ≡ accepted k.value (bit k.swapped) (bit (not hit && not dirt)) (bit (not hit && o) + bit r.stores)
+          → {x₁ x₂ : Option Store} → x₁ ≡ then_some (not hit && o) (record { line = home; word = e.word })
+          → x₂ ≡ then_some r.stores (record { line = a; word = k.word })
           → ◌≡◌ {A = Decision} (record {
             entry = record { tag = l.place.tag; byte = r.own; word = k.word };
             others = others;
             bus = r.bus;
-            evicts = not hit && o;
-            home = home;
-            evicted = e.word;
-            stores = r.stores;
+            evicted = x₁;
+            stored = x₂;
             answer = n;
           }) (decided s (model_in s (bytes m₀ g h d)) i a acc m)
       unfolding entry_at coded decided accessed word_found fetches evicts_owner shared dirty access_rule word_at seen tables_in model_in
-      decide_done m₀ acc m hh {others} ho hd {w} hw {k} hk {x} hy hx {r} hr {home} hm hn =
+      decide_done m₀ acc m hh {others} ho hd {w} hw {k} hk {x} hy hx {r} hr {home} hm hn h₁ h₂ =
           let es : not (eqb others 0) ≡ shared s t' i a = rw ho (shared_any s t' i a) in
           let ex : or_invalid (state_of x) ≡ seen s t' a i = rw (hx, hy, hh, entry_own) (hit_state s t' i a) in
-          rw (hn, hr, hk, hw, es, ho, hd, ex, hh, owner_own, home_own hm, tag_is v, entry_own)
+          rw (h₁, h₂, hn, hr, hk, hw, es, ho, hd, ex, hh, owner_own, home_own hm, tag_is v, entry_own)

@@ -21,17 +21,22 @@ use protocol::{rules, state};
 use words::access::Access;
 use words::{access, choose};
 
-// The own entry afterwards; the other holders, a bit for each port, and the number of the bus command that they hear; whether the own word
-// before is evicted from an owner, the home line that it then goes to, and that word; whether the line's word is stored; and the answer.
+// A word that is stored in main memory, and its line.
+#[derive(Clone, Copy)]
+pub struct Store {
+    pub line: usize,
+    pub word: u64,
+}
+
+// The own entry afterwards; the other holders, a bit for each port, and the number of the bus command that they hear; what is stored of an owner
+// that is evicted, and what of the line; and the answer.
 #[derive(Clone, Copy)]
 pub struct Decision {
     pub entry: Entry,
     pub others: u64,
     pub bus: u8,
-    pub evicts: bool,
-    pub home: usize,
-    pub evicted: u64,
-    pub stores: bool,
+    pub evicted: Option<Store>,
+    pub stored: Option<Store>,
     pub answer: Answer,
 }
 
@@ -104,10 +109,14 @@ pub fn decide(
         },
         others,
         bus: r.bus,
-        evicts,
-        home,
-        evicted: e.word,
-        stores: r.stores,
+        evicted: evicts.then_some(Store {
+            line: home,
+            word: e.word,
+        }),
+        stored: r.stores.then_some(Store {
+            line: line.number,
+            word: effect.word,
+        }),
         answer: answers::accept(effect.value, effect.swapped, fetches, evicts, r.stores),
     }
 }

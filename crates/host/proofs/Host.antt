@@ -58,7 +58,7 @@ same_lent {s} {b} f m g d =
           b.words d f.filled.words_fit,
     )
 
--- A call of step: accepted, refused with the answer written, refused with a slice of another length.
+-- A call of step: accepted, or refused, with the answer written where its slice has 40 bytes.
 module _ (s : Shape) (o : Order) (b : Bytes) (out : List ℕ) {n : ℕ} (en : n ≡ host_refusal s b (eqb (length out) 40)) where
   pub step-accepted : n ≡ 0 → {x : Answer} {b' : Bytes} {out' : List ℕ} → result x (model_in s b') ≡ step s o (model_in s b)
       → length b'.memory ≡ length b.memory → length b'.tags ≡ length b.tags → length b'.states ≡ length b.states
@@ -70,14 +70,9 @@ module _ (s : Shape) (o : Order) (b : Bytes) (out : List ℕ) {n : ℕ} (en : n 
       let f = refitted b' (fitting s b (eqb (length out) 40) (sym en ∙ z)) em eg eh ed in
       rw (← en, eq-eqb n 0 z, ← e, same_lent f m g d, ea)
 
-  pub step-answered : n ≢ 0 → eqb (length out) 40 ≡ true → {out' : List ℕ} → out' ≡ answer_bytes (refused n)
-      → hosted n b out' ≡ host_step s o b out
-  unfolding host_step refusal_put
-  step-answered h w f = rw (← en, ne_eqb n 0 h, w, f)
-
-  pub step_unanswered : n ≢ 0 → eqb (length out) 40 ≡ false → hosted n b out ≡ host_step s o b out
-  unfolding host_step refusal_put
-  step_unanswered h w = rw (← en, ne_eqb n 0 h, w)
+  pub step-refused : n ≢ 0 → {out' : List ℕ} → out' ≡ refusal_put n out → hosted n b out' ≡ host_step s o b out
+  unfolding host_step
+  step-refused h f = rw (← en, ne_eqb n 0 h, f)
 
 -- Zeros in bytes.
 zero_bytes_lem : (w : ℕ) → bytes_of w 0 ≡ replicate w 0

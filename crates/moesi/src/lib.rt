@@ -9,7 +9,7 @@ ghost use Rattle.std.specs.Prelude.{◌≡◌, []};
 ghost use Rattle.shape.specs.Shape.{shape_of, unranged};
 ghost use Rattle.decode.specs.Order.{order};
 ghost use Rattle.ports.specs.Bytes.{bytes};
-ghost use Rattle.host.specs.Host.{hosted, host_step, host_fresh, host_audit};
+ghost use Rattle.host.specs.Host.{hosted, host_refusal, host_step, host_fresh, host_audit};
 ghost use Rattle.host.specs.ReadBack.{OfBytes};
 ghost use Rattle.host.specs.Totals.{with_record, host_step_totals};
 ghost use Rattle.letters.specs.declared.Way.TheVariants.{ToNew, ToOld};
@@ -18,6 +18,20 @@ ghost use Rattle.edition.specs.Convert.{tables, conversion, convert};
 use counters::lent;
 use letters::Way;
 use shape::Shape;
+
+// The number of the refusal of what is lent, 0 if none; out says that the slice written to has its length.
+fn lent_refusal(
+    shape: Shape,
+    memory: &[u8],
+    tags: &[u8],
+    states: &[u8],
+    data: &[u8],
+    out: bool,
+) -> u64
+    ensures { result ≡ host_refusal shape (bytes memory.now tags.now states.now «data».now) out }
+{
+    refusals::number_of(lengths::check(shape, memory, tags, states, data, out))
+}
 
 // One order: its five numbers go to answer, those of a refused order too. An answer of another length than 40 bytes is left alone.
 pub fn moesi_step(
@@ -50,14 +64,7 @@ pub fn moesi_step(
         device_first,
         device_count,
     );
-    let n = refusals::number_of(lengths::check(
-        shape,
-        memory,
-        tags,
-        states,
-        data,
-        answer.len() == 40,
-    ));
+    let n = lent_refusal(shape, memory, tags, states, data, answer.len() == 40);
     if n != 0 {
         host::put_refusal(answer, n);
         return n;
@@ -104,7 +111,7 @@ pub fn moesi_step_totals(
             device_first,
             device_count,
         );
-        let n = refusals::number_of(lengths::check(shape, memory, tags, states, data, false));
+        let n = lent_refusal(shape, memory, tags, states, data, false);
         host::put_refusal(answer, n);
         return n;
     }
@@ -161,7 +168,7 @@ pub fn moesi_fresh(
         device_first,
         device_count,
     );
-    let n = refusals::number_of(lengths::check(shape, memory, tags, states, data, true));
+    let n = lent_refusal(shape, memory, tags, states, data, true);
     if n == 0 {
         fresh::clear_bytes(tags);
         fresh::clear_bytes(states);
@@ -201,7 +208,7 @@ pub fn moesi_audit(
         device_count,
     );
     let out = verdict.len() == 1;
-    let n = refusals::number_of(lengths::check(shape, memory, tags, states, data, out));
+    let n = lent_refusal(shape, memory, tags, states, data, out);
     if n != 0 {
         if out {
             verdict[0] = 0;
@@ -229,7 +236,7 @@ pub fn moesi_from_old(
         (tables tags.now states.now «data».now)
         (tables tags_out.old states_out.old data_out.old) }
 {
-    edition::convert(
+    let converted = edition::convert(
         Way::ToNew,
         Shape::unranged(ports, sets, lines),
         tags,
@@ -238,7 +245,8 @@ pub fn moesi_from_old(
         tags_out,
         states_out,
         data_out,
-    )
+    );
+    refusals::number_of(converted)
 }
 
 // Tables of the old edition, out of tables of this one.
@@ -258,7 +266,7 @@ pub fn moesi_to_old(
         (tables tags.now states.now «data».now)
         (tables tags_out.old states_out.old data_out.old) }
 {
-    edition::convert(
+    let converted = edition::convert(
         Way::ToOld,
         Shape::unranged(ports, sets, lines),
         tags,
@@ -267,5 +275,6 @@ pub fn moesi_to_old(
         tags_out,
         states_out,
         data_out,
-    )
+    );
+    refusals::number_of(converted)
 }

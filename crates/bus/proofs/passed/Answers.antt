@@ -1,16 +1,19 @@
--- What is still to come and what is there make up the whole, turn by turn. Assumes nothing.
-use Rattle.std.proofs.Common.{◌≡◌, ◌+◌, ◌-◌, ◌*◌, ℕ, arith, ap, ◌∙◌}
-use native.Mathlib.Nat.{add-mul, one-mul}
+-- Sets more for each port passed over. Assumes nothing.
+use Rattle.std.proofs.Common.{◌+◌, ◌*◌, ◌<◌, ◌≤◌, ◌≡◌, ℕ, arith, refl}
+use native.Mathlib.Nat.{mul-le-mul, add-mul, one-mul}
 use Rattle.bus.proofs.passed.Goals as goal
 
--- What n ports take of the tables, by one port less.
-one_port_less : {n : ℕ} → (n ≡ 0 → ⊥) → (sets : ℕ) → n * sets ≡ (n - 1) * sets + sets
-one_port_less {n} h sets =
-    let e : n ≡ n - 1 + 1 = omega (arith, h) in
-    ap (λ (x : ℕ). x * sets) e ∙ add-mul (n - 1) 1 sets ∙ ap (λ (x : ℕ). (n - 1) * sets + x) (one-mul sets)
+next_port : (p sets : ℕ) → (p + 1) * sets ≡ p * sets + sets
+next_port p sets = rw (add-mul p 1 sets, one-mul sets) refl
+
+one_port_more : (p n sets : ℕ) → p < n → p * sets + sets ≤ n * sets
+one_port_more p n sets h =
+    let more : p + 1 ≤ n = omega (arith, h) in
+    let same : sets ≤ sets = omega arith in
+    rw (← next_port p sets) (mul-le-mul more same)
 
 pub overflow_add-at : goal.overflow_add-at
-overflow_add-at c = omega (arith, one_port_less c.loop-left-test.true c.args.sets)
+overflow_add-at c = omega (arith, one_port_more _ _ c.args.sets c.loop-p-test.true, c.loop-p.invariant)
 
-pub loop-left-preserved : goal.loop-left-preserved
-loop-left-preserved c = omega (arith, one_port_less c.loop-left-test.true c.args.sets)
+pub loop-p-preserved : goal.loop-p-preserved
+loop-p-preserved c = omega (arith, next_port c.loop-p.p c.args.sets, c.loop-p.invariant)

@@ -36,4 +36,4 @@ returns c =
     c.is_owner.ensures _ _ _ (masks_hit _ _ _ p _ r.port)
     (bit_away _ _ _ (masks_holders _ _ _ p) r.port (few r.placed)).1 (masks_dirty _ _ _ p)
     c.find_word-found.ensures c.effect_at-effect.ensures c.from.ensures c.choose-byte.ensures c.own_rule-r.ensures
-    c.home_of-home.ensures c.accept.ensures
+    c.home_of-home.ensures c.accept.ensures c.then_some.ensures c.then_some-2.ensures

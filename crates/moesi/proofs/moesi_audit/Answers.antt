@@ -16,7 +16,7 @@ audit_tables-requires c = search audit-fits
 
 pub bounds-verdict-0-2 : goal.bounds-verdict-0-2
 bounds-verdict-0-2 c =
-    let e = eqb-true (length c.args.verdict.now) 1 (out_fits _ _ _ _ _ _ c.refusal_by-n.ensures c.if-n-ne0.false) in
+    let e = eqb-true (length c.args.verdict.now) 1 (out_fits _ _ _ _ _ _ c.lent_refusal-n.ensures c.if-n-ne0.false) in
     omega (arith, e)
 
 pub returns : goal.returns

@@ -9,7 +9,7 @@ returns-then-n-eq0 c =
     let a = c.args in
     let of : OfBytes (bytes a.memory.now a.tags.now a.states.now a.«data».now) = search of_bytes in (
       of,
-      fresh-accepted _ _ c.refusal_by-n.ensures c.if-n-eq0.true of.memory c.clear_bytes.ensures c.clear_bytes-then-n-eq0.ensures
+      fresh-accepted _ _ c.lent_refusal-n.ensures c.if-n-eq0.true of.memory c.clear_bytes.ensures c.clear_bytes-then-n-eq0.ensures
           c.clear_bytes-then-n-eq0-2.ensures,
     )
 

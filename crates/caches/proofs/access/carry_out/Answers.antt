@@ -12,4 +12,4 @@ pub returns : goal.returns
 returns c =
     let x = c.args in
     carry_done c.requires.placed (bytes x.memory.now x.tags.now x.states.now x.words.now) _ x.i x.d
-    c.ask.ensures c.entry_number-at.ensures.0 c.put_entry.ensures c.store_if.ensures c.store_if-2.ensures
+    c.ask.ensures c.entry_number-at.ensures.0 c.put_entry.ensures c.store.ensures c.store-2.ensures
