@@ -1,3 +1,3 @@
 -- What the proofs of this crate cite.
-pub mod Calls
+pub mod Numbers
 pub mod Modes

@@ -2,10 +2,10 @@
 #![tactic(auto)]
 
 ghost use Rattle.std.specs.Prelude.{◌≡◌, cond};
-ghost use Rattle.model.specs.Order.{bits, mode_in_force, checked, call_of, decode, decoded};
-ghost use Rattle.decode.specs.Order.{order, access_of};
+ghost use Rattle.model.specs.Order.{bits, kind_number, kind_at, has_port, mode_in_force, checked, call_of, decode, decoded};
+ghost use Rattle.decode.specs.Order.{order};
 
-use model::order::{Call, KINDS};
+use model::order::{Call, Kind};
 use protocol::state::Mode;
 use refusals::Refusal;
 use shape::Shape;
@@ -38,52 +38,66 @@ fn mode_in_force(shape: Shape, w: u64, a: usize) -> Mode
     mode_of(shape.scratch.has(a) | (!shape.device.has(a) & said))
 }
 
-// What the kinds 0 to 2 ask: read, write, and else compare-and-swap.
-#[tactic(auto, unfolding(crate::specs::Order::access_of))]
-fn access_of(kind: usize, mask: u8, compare: u64, x: u64) -> Access
-    ensures { result ≡ access_of kind mask compare x }
+// The kind of a number, if it is one.
+#[tactic(auto, unfolding(model::specs::Order::kind_at))]
+fn kind_at(n: usize) -> Option<Kind>
+    ensures { result ≡ kind_at n }
 {
-    match kind {
-        0 => Access::Read,
-        1 => Access::Write(mask, x),
-        _ => Access::Swap(mask, x, compare),
+    match n {
+        0 => Some(Kind::Read),
+        1 => Some(Kind::Write),
+        2 => Some(Kind::Swap),
+        3 => Some(Kind::Flush),
+        4 => Some(Kind::DeviceRead),
+        5 => Some(Kind::DeviceWrite),
+        _ => None,
     }
 }
 
-#[tactic(auto, using(crate::proofs::Calls::call_access, crate::proofs::Calls::call_flush, crate::proofs::Calls::call_device_read, crate::proofs::Calls::call_device_write))]
-fn call_of(kind: usize, m: Mode, port: usize, mask: u8, compare: u64, x: u64) -> Call
-    ensures { result ≡ call_of kind m port mask compare x }
+// The kinds that name a port.
+fn has_port(kind: Kind) -> bool
+    ensures { result ≡ has_port (kind_number kind) }
 {
     match kind {
-        0..=2 => Call::ByPort(access_of(kind, mask, compare, x), m, port),
-        3 => Call::Flush(port),
-        4 => Call::DeviceRead,
-        _ => Call::DeviceWrite(mask, x),
+        Kind::Read | Kind::Write | Kind::Swap | Kind::Flush => true,
+        Kind::DeviceRead | Kind::DeviceWrite => false,
     }
 }
 
-// The kind is checked first, then the port, where the kind has one, the line, and a swap's mask; else the call and its line.
-#[tactic(auto, unfolding(model::specs::Order::checked))]
+// What an order of a kind asks. Each kind takes the fields that it uses.
+#[tactic(auto, unfolding(model::specs::Order::call_of))]
+fn call_of(kind: Kind, m: Mode, port: usize, mask: u8, compare: u64, x: u64) -> Call
+    ensures { result ≡ call_of (kind_number kind) m port mask compare x }
+{
+    match kind {
+        Kind::Read => Call::ByPort(Access::Read, m, port),
+        Kind::Write => Call::ByPort(Access::Write(mask, x), m, port),
+        Kind::Swap => Call::ByPort(Access::Swap(mask, x, compare), m, port),
+        Kind::Flush => Call::Flush(port),
+        Kind::DeviceRead => Call::DeviceRead,
+        Kind::DeviceWrite => Call::DeviceWrite(mask, x),
+    }
+}
+
+// The port is checked first, where the kind has one, then the line, and a swap's mask; else the call and its line.
+#[tactic(auto, using(crate::proofs::Numbers::known), unfolding(model::specs::Order::checked))]
 fn checked_call(
     shape: Shape,
-    kind: usize,
+    kind: Kind,
     port: usize,
     mask: u8,
     line: usize,
     call: Call,
 ) -> Result<(Call, usize), Refusal>
-    ensures { decoded result ≡ checked shape kind port mask line call }
+    ensures { decoded result ≡ checked shape (kind_number kind) port mask line call }
 {
-    if KINDS <= kind {
-        return Err(Refusal::Kind);
-    }
-    if (kind < 4) & (shape.ports <= port) {
+    if has_port(kind) & (shape.ports <= port) {
         return Err(Refusal::Port);
     }
     if shape.lines <= line {
         return Err(Refusal::Line);
     }
-    if (kind == 2) & !((mask == 0x0F) | (mask == 0xF0)) {
+    if matches!(kind, Kind::Swap) & !matches!(mask, 0x0F | 0xF0) {
         return Err(Refusal::Mask);
     }
     Ok((call, line))
@@ -94,7 +108,9 @@ fn checked_call(
 pub fn decode_order(shape: Shape, w: u64, x: u64) -> Result<(Call, usize), Refusal>
     ensures { decoded result ≡ decode shape (order w x) }
 {
-    let kind = kind_of(w);
+    let Some(kind) = kind_at(kind_of(w)) else {
+        return Err(Refusal::Kind);
+    };
     let port = (w / 16 % 16) as usize;
     let mask = (w / 256 % 256) as u8;
     let line = (w / 65536 % 65536) as usize;

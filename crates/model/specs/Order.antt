@@ -1,11 +1,12 @@
 -- An order: a word and an operand, and what the word says.
-use Rattle.std.specs.Prelude.{ℕ, Result, Ok, Err, ◌/◌, ◌%◌, ◌^◌, ◌<◌, Bool, true, false, cond, ◌&&◌, ◌||◌, not, eqb, ltb, leb}
+use Rattle.std.specs.Prelude.{ℕ, Option, Some, None, Result, Ok, Err, ◌/◌, ◌%◌, ◌^◌, ◌<◌, Bool, true, false, cond, ◌&&◌, ◌||◌, not, eqb, ltb, leb}
 use Rattle.protocol.specs.declared.state.Mode.{Mode}
 use Rattle.protocol.specs.declared.state.Mode.TheVariants.{Through, Back}
 use Rattle.words.specs.declared.access.Access.TheVariants.{Read, Write, Swap}
 use Rattle.refusals.specs.declared.Refusal.{Refusal}
 use Rattle.refusals.specs.Numbers.{number}
 use Rattle.shape.specs.declared.Shape.{Shape}
+use Rattle.model.specs.declared.order.Kind.{Kind}
 use Rattle.model.specs.declared.order.Call.{Call}
 use Rattle.model.specs.declared.order.Call.TheVariants.{ByPort, Flush, DeviceRead, DeviceWrite}
 use Rattle.shape.specs.Range.{inside}
@@ -31,6 +32,24 @@ bits w k n = w / 2 ^ k % 2 ^ n
 -- How many kinds of orders there are, from kind 0 up.
 abbrev pub kinds : ℕ
 kinds = 6
+
+-- The number of each kind, and the kind of a number; from `kinds` on a number is none.
+abbrev pub kind_number : Kind → ℕ
+kind_number Kind.Read = 0
+kind_number Kind.Write = 1
+kind_number Kind.Swap = 2
+kind_number Kind.Flush = 3
+kind_number Kind.DeviceRead = 4
+kind_number Kind.DeviceWrite = 5
+
+unfoldable pub kind_at : ℕ → Option Kind
+kind_at n =
+    cond (eqb n 0) (Some Kind.Read)
+    (cond (eqb n 1) (Some Kind.Write)
+    (cond (eqb n 2) (Some Kind.Swap)
+    (cond (eqb n 3) (Some Kind.Flush)
+    (cond (eqb n 4) (Some Kind.DeviceRead)
+    (cond (eqb n 5) (Some Kind.DeviceWrite) None)))))
 
 -- The kind that an order's word says: its lowest three bits.
 abbrev pub kind_of : Order → ℕ
