@@ -1,48 +1,31 @@
-// The rows of the published tables, in numbers: which cases have a row, and the cells of each.
-#![tactic(auto)]
+// The rows of the published tables as code: the cases in their order, which of them have a row, and the cells of each.
+#![tactic(auto, unfolding(rows::specs::Cells::row_of, rows::specs::Cells::reads_in, rows::specs::Cells::writes_in, rows::specs::Cases::audited, protocol::specs::Rules::flush_rule))]
 
-ghost use Rattle.std.specs.Prelude.{◌≡◌, ◌<◌};
-ghost use Rattle.words.specs.Bools.{bit};
-ghost use Rattle.protocol.specs.State.{valid, owner, exclusive};
-ghost use Rattle.protocol.specs.Coded.{bus_at, mode_number, mode_at};
-ghost use Rattle.rows.specs.Cases.{own, snoop, take_over, flush, device_write, device_read};
-ghost use Rattle.rows.specs.Cases.{outcome_number, outcome_in_turn, state_in_turn, arises, held_through, printed, own_audited, snoop_audited, cases, own_at, case_at};
+ghost use Rattle.std.specs.Prelude.{◌≡◌, ◌↔◌, true, IsSome, IfSome};
+ghost use Rattle.protocol.specs.State.{state_of, or_invalid, is_state, valid, owner, exclusive};
+ghost use Rattle.protocol.specs.Rules.{rule, snooped, updates};
+ghost use Rattle.protocol.specs.Coded.{bus_number, bus_at, mode_at};
+ghost use Rattle.rows.specs.Cases.{outcome_in_turn, state_in_turn, arises, held_through, printed, own_audited, snoop_audited, cases, own_at, case_at};
 ghost use Rattle.rows.specs.Cells.{source_of, blank_row, row_of};
+ghost use Rattle.rows.specs.Numbers.{table_number, source_number, cells};
 
+use protocol::rules::{Bus, Rule};
 use protocol::state::{Byte, Mode, State};
 use protocol::{rules, state};
-use rows::Row;
+use rows::{Case, Row, Source, Table};
 use words::access::Outcome;
 
-// A cell that a table does not have.
-const BLANK: u8 = 255;
-
-fn number(b: bool) -> u8
-    ensures { result ≡ bit b }
-{
-    if b { 1 } else { 0 }
-}
+// How many cases there are, those that have no row among them (`case_at` ensures it).
+pub const CASES: u8 = 227;
 
 #[tactic(auto, unfolding(rows::specs::Cases::outcome_in_turn))]
 fn outcome_at(n: u8) -> Outcome
     ensures { result ≡ outcome_in_turn n }
 {
-    if n == 0 {
-        return Outcome::Reads;
-    }
-    if n == 1 {
-        return Outcome::Writes;
-    }
-    Outcome::Rewrites
-}
-
-fn outcome_number(k: Outcome) -> u8
-    ensures { result ≡ outcome_number k }
-{
-    match k {
-        Outcome::Reads => 0,
-        Outcome::Writes => 1,
-        Outcome::Rewrites => 2,
+    match n {
+        0 => Outcome::Reads,
+        1 => Outcome::Writes,
+        _ => Outcome::Rewrites,
     }
 }
 
@@ -50,15 +33,9 @@ fn outcome_number(k: Outcome) -> u8
 fn mode_at(n: u8) -> Mode
     ensures { result ≡ mode_at n }
 {
-    if n == 0 { Mode::Through } else { Mode::Back }
-}
-
-fn mode_number(m: Mode) -> u8
-    ensures { result ≡ mode_number m }
-{
-    match m {
-        Mode::Through => 0,
-        Mode::Back => 1,
+    match n {
+        0 => Mode::Through,
+        _ => Mode::Back,
     }
 }
 
@@ -78,18 +55,70 @@ fn state_at(n: u8) -> State
     }
 }
 
-// Where the line's word comes from.
-#[tactic(auto, unfolding(rows::specs::Cells::source_of))]
-fn source_of(hit: bool, dirty: bool) -> u8
-    ensures { result ≡ source_of hit dirty }
+#[tactic(auto, unfolding(protocol::specs::Coded::bus_at))]
+fn bus_at(n: u8) -> Bus
+    ensures { result ≡ bus_at n }
 {
-    if hit {
-        return 0;
+    match n {
+        0 => Bus::Quiet,
+        1 => Bus::Invalidate,
+        2 => Bus::ShareOwned,
+        3 => Bus::Share(Mode::Through),
+        4 => Bus::Share(Mode::Back),
+        5 => Bus::Update(Mode::Through),
+        _ => Bus::Update(Mode::Back),
     }
-    if dirty {
-        return 1;
+}
+
+#[tactic(auto, unfolding(protocol::specs::Coded::bus_number))]
+fn bus_number(bus: Bus) -> u8
+    ensures { result ≡ bus_number bus }
+{
+    match bus {
+        Bus::Quiet => 0,
+        Bus::Invalidate => 1,
+        Bus::ShareOwned => 2,
+        Bus::Share(Mode::Through) => 3,
+        Bus::Share(Mode::Back) => 4,
+        Bus::Update(Mode::Through) => 5,
+        Bus::Update(Mode::Back) => 6,
     }
-    2
+}
+
+// The case of an access at a number below 168: its outcome, mode, shared, dirty and state are digits of the number.
+fn own_at(k: u8) -> Case
+    ensures { result ≡ own_at k }
+{
+    Case::Own {
+        outcome: outcome_at(k / 56),
+        mode: mode_at(k / 28 % 2),
+        shared: k / 14 % 2 == 1,
+        dirty: k / 7 % 2 == 1,
+        state: state_at(k % 7),
+    }
+}
+
+// The case at a number. There are CASES of them.
+#[tactic(auto, using(crate::proofs::Parts::parts))]
+pub fn case_at(k: u8) -> Case
+    ensures case { result ≡ case_at k }
+    ensures count { CASES ≡ cases }
+{
+    match k {
+        0..168 => own_at(k),
+        168..210 => Case::Snoop {
+            hears: bus_at((k - 168) / 6),
+            state: state_at((k - 168) % 6 + 1),
+        },
+        210..217 => Case::TakeOver {
+            state: state_at(k - 210),
+        },
+        217..224 => Case::Flush {
+            state: state_at(k - 217),
+        },
+        224..226 => Case::DeviceWrite { dirty: k == 225 },
+        226.. => Case::DeviceRead,
+    }
 }
 
 // Not I.
@@ -109,32 +138,14 @@ fn is_owned(s: State) -> bool
 fn is_exclusive(s: State) -> bool
     ensures { result ≡ exclusive s }
 {
-    match s {
-        State::I => false,
-        State::S(_) => false,
-        State::E(_) => true,
-        State::O => false,
-        State::M => true,
-    }
+    matches!(s, State::E(_) | State::M)
 }
 
 // Held in write through.
 fn is_through(s: State) -> bool
     ensures { result ≡ held_through s }
 {
-    match s {
-        State::I => false,
-        State::S(m) => match m {
-            Mode::Through => true,
-            Mode::Back => false,
-        },
-        State::E(m) => match m {
-            Mode::Through => true,
-            Mode::Back => false,
-        },
-        State::O => false,
-        State::M => false,
-    }
+    matches!(s, State::S(Mode::Through) | State::E(Mode::Through))
 }
 
 // The case of an access can arise.
@@ -142,16 +153,28 @@ fn is_through(s: State) -> bool
 fn can_arise(shared: bool, dirty: bool, s: State) -> bool
     ensures { result ≡ arises shared dirty s }
 {
-    if is_owned(s) {
-        return dirty;
-    }
-    if dirty {
-        return shared;
-    }
-    true
+    if is_owned(s) { dirty } else { !dirty | shared }
 }
 
-// Tables that pass the audit have it.
+// The case has a row: all but those of an access that can't arise, and a port in I hears nothing.
+#[tactic(auto, unfolding(rows::specs::Cases::printed))]
+pub fn is_printed(case: Case) -> bool
+    ensures { result ≡ printed case }
+{
+    match case {
+        Case::Own {
+            shared,
+            dirty,
+            state,
+            ..
+        } => can_arise(shared, dirty, state),
+        Case::Snoop { state, .. } => is_held(state),
+        Case::TakeOver { .. } | Case::Flush { .. } | Case::DeviceWrite { .. } | Case::DeviceRead =>
+            true,
+    }
+}
+
+// Tables that pass the audit have the case of an access.
 #[tactic(auto, unfolding(rows::specs::Cases::own_audited))]
 fn is_own_audited(shared: bool, dirty: bool, s: State) -> bool
     ensures { result ≡ own_audited shared dirty s }
@@ -159,181 +182,205 @@ fn is_own_audited(shared: bool, dirty: bool, s: State) -> bool
     can_arise(shared, dirty, s) & (!is_exclusive(s) | !shared) & (!is_through(s) | !dirty)
 }
 
-// Tables that pass the audit have a holder in state s that hears the command of a number.
-#[tactic(auto, unfolding(protocol::specs::Coded::bus_at, rows::specs::Cases::snoop_audited))]
-fn is_snoop_audited(bus: u8, s: State) -> bool
-    ensures { result ≡ snoop_audited (bus_at bus) s }
+// Tables that pass the audit have a holder in state s that hears the command.
+#[tactic(auto, unfolding(rows::specs::Cases::snoop_audited))]
+fn is_snoop_audited(bus: Bus, s: State) -> bool
+    ensures { result ≡ snoop_audited bus s }
 {
     match bus {
-        0 => !is_exclusive(s),
-        1 => true,
-        2 => true,
-        3 => true,
-        4 => !is_exclusive(s) & is_through(s),
-        5 => !is_exclusive(s),
-        _ => !is_exclusive(s),
+        Bus::Quiet | Bus::Update(_) => !is_exclusive(s),
+        Bus::Share(Mode::Back) => !is_exclusive(s) & is_through(s),
+        Bus::Share(Mode::Through) | Bus::Invalidate | Bus::ShareOwned => true,
     }
 }
 
-// A row whose cells are blank, of a table.
-fn blank_row(table: u8) -> Row
-    ensures { result ≡ blank_row table }
+// Where the line's word comes from.
+#[tactic(auto, unfolding(rows::specs::Cells::source_of))]
+fn source_of(hit: bool, dirty: bool) -> Source
+    ensures { source_number result ≡ source_of hit dirty }
+{
+    match (hit, dirty) {
+        (true, _) => Source::Own,
+        (false, true) => Source::Owner,
+        (false, false) => Source::Memory,
+    }
+}
+
+// The state of a byte that is one.
+fn state_of(b: u8) -> State
+    requires { is_state (state_of b) ≡ true }
+    ensures { result ≡ or_invalid (state_of b) }
+{
+    match state::byte_state(b) {
+        Byte::Of(s) => s,
+        Byte::No => unreachable!(),
+    }
+}
+
+// The rule for a port that sees the line in state s, from its numbers.
+#[tactic(auto, using(crate::proofs::Parts::codes), unfolding(protocol::specs::Coded::coded))]
+fn own_rule(k: Outcome, m: Mode, shared: bool, dirty: bool, s: State) -> Rule
+    ensures { result ≡ rule k m shared dirty s }
+{
+    let r = rules::own_rule(k, m, shared, dirty, state::state_byte(s));
+    Rule {
+        own: state_of(r.own),
+        bus: bus_at(r.bus),
+        stores: r.stores,
+    }
+}
+
+// What the state of a holder becomes when it hears the command.
+#[tactic(auto, using(crate::proofs::Parts::codes))]
+fn snooped(bus: Bus, s: State) -> State
+    ensures { result ≡ snooped bus s }
+{
+    state_of(rules::snooped_byte(bus_number(bus), state::state_byte(s)))
+}
+
+// The command hands the line's new word to the holders.
+#[tactic(auto, using(crate::proofs::Parts::codes))]
+fn hands_word(bus: Bus) -> bool
+    ensures { result ≡ updates bus }
+{
+    rules::hands_word(bus_number(bus))
+}
+
+// A row of a table with no cell filled in, with no memory access, and met on tables that pass the audit.
+fn blank_row(table: Table) -> Row
+    ensures { cells result ≡ blank_row (table_number table) }
 {
     Row {
         table,
-        access: BLANK,
-        mode: BLANK,
-        shared: BLANK,
-        dirty: BLANK,
-        hears: BLANK,
-        state: BLANK,
-        next: BLANK,
-        sends: BLANK,
-        word: BLANK,
-        takes: BLANK,
-        reads: 0,
-        writes: 0,
-        audited: 1,
+        access: None,
+        mode: None,
+        shared: None,
+        dirty: None,
+        hears: None,
+        state: None,
+        next: None,
+        sends: None,
+        word: None,
+        takes: None,
+        reads: false,
+        writes: false,
+        audited: true,
     }
 }
 
 // An access by a port.
 fn own_row(outcome: Outcome, mode: Mode, shared: bool, dirty: bool, s: State) -> Row
-    ensures { result ≡ row_of (own outcome mode shared dirty s) }
+    ensures { cells result ≡ row_of (Case.Own outcome mode shared dirty s) }
 {
     let hit = is_held(s);
-    let byte = state::state_byte(s);
-    let r = rules::own_rule(outcome, mode, shared, dirty, byte);
-    let mut row = blank_row(0);
-    row.access = outcome_number(outcome);
-    row.mode = mode_number(mode);
-    row.shared = number(shared);
-    row.dirty = number(dirty);
-    row.state = byte;
-    row.next = r.own;
-    row.sends = r.bus;
-    row.word = source_of(hit, dirty);
-    row.reads = number(!hit & !dirty);
-    row.writes = number(r.stores);
-    row.audited = number(is_own_audited(shared, dirty, s));
-    row
+    let rule = own_rule(outcome, mode, shared, dirty, s);
+    Row {
+        access: Some(outcome),
+        mode: Some(mode),
+        shared: Some(shared),
+        dirty: Some(dirty),
+        state: Some(s),
+        next: Some(rule.own),
+        sends: Some(rule.bus),
+        word: Some(source_of(hit, dirty)),
+        reads: !hit & !dirty,
+        writes: rule.stores,
+        audited: is_own_audited(shared, dirty, s),
+        ..blank_row(Table::Access)
+    }
 }
 
-// A holder in state s that hears the command of a number.
-fn snoop_row(bus: u8, s: State) -> Row
-    requires { bus < 7 }
-    ensures { result ≡ row_of (snoop (bus_at bus) s) }
+// A holder in state s that hears the command.
+fn snoop_row(hears: Bus, s: State) -> Row
+    ensures { cells result ≡ row_of (Case.Snoop hears s) }
 {
-    let byte = state::state_byte(s);
-    let mut row = blank_row(1);
-    row.hears = bus;
-    row.state = byte;
-    row.next = rules::snooped_byte(bus, byte);
-    row.takes = number(rules::hands_word(bus));
-    row.audited = number(is_held(s) & is_snoop_audited(bus, s));
-    row
+    Row {
+        hears: Some(hears),
+        state: Some(s),
+        next: Some(snooped(hears, s)),
+        takes: Some(hands_word(hears)),
+        audited: is_held(s) & is_snoop_audited(hears, s),
+        ..blank_row(Table::Snoop)
+    }
 }
 
 // The entry that a miss takes over.
-#[tactic(auto, unfolding(rows::specs::Cells::row_of, rows::specs::Cells::reads_in, rows::specs::Cells::writes_in, rows::specs::Cases::audited))]
 fn taken_row(s: State) -> Row
-    ensures { result ≡ row_of (take_over s) }
+    ensures { cells result ≡ row_of (Case.TakeOver s) }
 {
-    let mut row = blank_row(2);
-    row.state = state::state_byte(s);
-    row.writes = number(is_owned(s));
-    row
+    Row {
+        state: Some(s),
+        writes: is_owned(s),
+        ..blank_row(Table::TakeOver)
+    }
 }
 
 // A flush by a port.
-#[tactic(auto, unfolding(rows::specs::Cells::row_of, rows::specs::Cells::reads_in, rows::specs::Cells::writes_in, rows::specs::Cases::audited, protocol::specs::Rules::flush_rule))]
 fn flush_row(s: State) -> Row
-    ensures { result ≡ row_of (flush s) }
+    ensures { cells result ≡ row_of (Case.Flush s) }
 {
-    let mut row = blank_row(3);
-    row.state = state::state_byte(s);
-    row.next = state::state_byte(State::I);
-    row.writes = number(is_owned(s));
-    row
+    Row {
+        state: Some(s),
+        next: Some(State::I),
+        writes: is_owned(s),
+        ..blank_row(Table::Flush)
+    }
 }
 
 // A device write.
-#[tactic(auto, using(rows::proofs::Cells::bus_number_lem), unfolding(rows::specs::Cells::row_of, rows::specs::Cells::reads_in, rows::specs::Cells::writes_in, rows::specs::Cases::audited))]
 fn device_write_row(dirty: bool) -> Row
-    ensures { result ≡ row_of (device_write dirty) }
+    ensures { cells result ≡ row_of (Case.DeviceWrite dirty) }
 {
-    let mut row = blank_row(4);
-    row.dirty = number(dirty);
-    row.sends = rules::invalidate();
-    row.word = source_of(false, dirty);
-    row.reads = number(!dirty);
-    row.writes = 1;
-    row
+    Row {
+        dirty: Some(dirty),
+        sends: Some(Bus::Invalidate),
+        word: Some(source_of(false, dirty)),
+        reads: !dirty,
+        writes: true,
+        ..blank_row(Table::DeviceWrite)
+    }
 }
 
 // A device read.
-#[tactic(auto, unfolding(rows::specs::Cells::row_of, rows::specs::Cells::reads_in, rows::specs::Cells::writes_in, rows::specs::Cases::audited))]
 fn device_read_row() -> Row
-    ensures { result ≡ row_of device_read }
+    ensures { cells result ≡ row_of Case.DeviceRead }
 {
-    let mut row = blank_row(5);
-    row.word = source_of(false, false);
-    row.reads = 1;
-    row
+    Row {
+        word: Some(source_of(false, false)),
+        reads: true,
+        ..blank_row(Table::DeviceRead)
+    }
 }
 
-// The row of the case at a number below 168: its outcome, mode, shared, dirty and state are digits of the number.
-fn own_row_at(k: u8) -> Row
-    ensures { result ≡ row_of (own_at k) }
+// The row of a case.
+pub fn row_of(case: Case) -> Row
+    ensures { cells result ≡ row_of case }
 {
-    let shared = k / 14 % 2 == 1;
-    let dirty = k / 7 % 2 == 1;
-    own_row(
-        outcome_at(k / 56),
-        mode_at(k / 28 % 2),
-        shared,
-        dirty,
-        state_at(k % 7),
-    )
+    match case {
+        Case::Own {
+            outcome,
+            mode,
+            shared,
+            dirty,
+            state,
+        } => own_row(outcome, mode, shared, dirty, state),
+        Case::Snoop { hears, state } => snoop_row(hears, state),
+        Case::TakeOver { state } => taken_row(state),
+        Case::Flush { state } => flush_row(state),
+        Case::DeviceWrite { dirty } => device_write_row(dirty),
+        Case::DeviceRead => device_read_row(),
+    }
 }
 
-// How many cases there are, those that have no row among them.
-pub fn case_count() -> u8
-    ensures { result ≡ cases }
+// The row of the case at a number, where it has one.
+pub fn printed_row(k: u8) -> Option<Row>
+    ensures printed { IsSome result ↔ (printed (case_at k) ≡ true) }
+    ensures row { IfSome result (λ r. cells r ≡ row_of (case_at k)) }
 {
-    227u8
-}
-
-// The row of the case at a number.
-#[tactic(auto, using(crate::proofs::Parts::parts))]
-pub fn row_at(k: u8) -> Row
-    ensures { result ≡ row_of (case_at k) }
-{
-    if k < 168 {
-        return own_row_at(k);
+    let case = case_at(k);
+    if is_printed(case) {
+        Some(row_of(case))
+    } else {
+        None
     }
-    if k < 210 {
-        return snoop_row((k - 168) / 6, state_at((k - 168) % 6 + 1));
-    }
-    if k < 217 {
-        return taken_row(state_at(k - 210));
-    }
-    if k < 224 {
-        return flush_row(state_at(k - 217));
-    }
-    if k < 226 {
-        return device_write_row(k == 225);
-    }
-    device_read_row()
-}
-
-// The case at a number has a row: all but those of an access that can't arise.
-#[tactic(auto, using(rows::proofs::Places::own_part, rows::proofs::Places::printed_part), unfolding(rows::specs::Cases::printed))]
-pub fn is_printed(k: u8) -> bool
-    ensures { result ≡ printed (case_at k) }
-{
-    if k < 168 {
-        return can_arise(k / 14 % 2 == 1, k / 7 % 2 == 1, state_at(k % 7));
-    }
-    true
 }

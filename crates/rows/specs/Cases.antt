@@ -3,7 +3,6 @@ use Rattle.std.specs.Prelude.{ℕ, ◌+◌, ◌-◌, ◌*◌, ◌/◌, ◌%◌, 
 use Rattle.words.specs.Bools.{implies, bit}
 use Rattle.words.specs.declared.access.Outcome.{Outcome}
 use Rattle.words.specs.declared.access.Outcome.TheVariants.{Reads, Writes, Rewrites}
-use Rattle.protocol.specs.declared.state.Mode.{Mode}
 use Rattle.protocol.specs.declared.state.Mode.TheVariants.{Through, Back}
 use Rattle.protocol.specs.declared.state.State.{State}
 use Rattle.protocol.specs.declared.state.State.TheVariants.{I, S, E, O, M}
@@ -11,21 +10,9 @@ use Rattle.protocol.specs.declared.rules.Bus.{Bus}
 use Rattle.protocol.specs.declared.rules.Bus.TheVariants.{Quiet, Share, Update, Invalidate, ShareOwned}
 use Rattle.protocol.specs.State.{valid, owner, exclusive, mode_of, is_through}
 use Rattle.protocol.specs.Coded.{bus_number, bus_at, mode_number, mode_at}
-
--- What a row is of:
--- an access by a port: what it comes to, its mode, whether another port holds the line, whether some port owns it, the port itself included,
--- and the state in which the port sees the line, I where it misses;
--- a holder that hears a bus command in a state;
--- the entry that a miss takes over, in a state, I or of another line;
--- a flush by a port that sees the line in a state;
--- a device write of a line that some port owns, or none; and a device read.
-pub data Case : Type 0 where
-  own : Outcome → Mode → Bool → Bool → State → Case
-  snoop : Bus → State → Case
-  take_over : State → Case
-  flush : State → Case
-  device_write : Bool → Case
-  device_read : Case
+-- What a row is of (src/lib.rt), by the names that its variants have here.
+pub use Rattle.rows.specs.declared.Case.{Case}
+pub use Rattle.rows.specs.declared.Case.TheVariants.{Own as own, Snoop as snoop, TakeOver as take_over, Flush as flush, DeviceWrite as device_write, DeviceRead as device_read}
 
 -- Where the port is an owner the line is dirty; where it is none, and the line is dirty, another port holds it.
 unfoldable pub arises : Bool → Bool → State → Bool

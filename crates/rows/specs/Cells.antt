@@ -5,11 +5,29 @@ use Rattle.protocol.specs.declared.rules.Bus.TheVariants.{Invalidate}
 use Rattle.protocol.specs.State.{code, state_of, or_invalid, valid, owner}
 use Rattle.protocol.specs.Rules.{rule, flush_rule, snooped, updates}
 use Rattle.protocol.specs.Coded.{bus_number, bus_at, mode_number, mode_at}
-use Rattle.rows.specs.declared.Row.{Row}
 use Rattle.rows.specs.Cases.{Case, own, snoop, take_over, flush, device_write, device_read, audited, outcome_number, outcome_in_turn}
 
 abbrev pub blank : ℕ
 blank = 255
+
+-- The cells of a row: the table, then what is known before, what follows, and whether tables that pass the audit have the case. States are by their
+-- bytes, bus commands by their numbers; an outcome is 0 for a read, 1 for a write, 2 for a rewrite; a mode 0 for write through; a word is the port's
+-- own (0), the lowest-numbered owner's (1) or memory's (2).
+pub record Cells : Type 0 where
+  pub table : ℕ
+  pub access : ℕ
+  pub mode : ℕ
+  pub shared : ℕ
+  pub dirty : ℕ
+  pub hears : ℕ
+  pub state : ℕ
+  pub next : ℕ
+  pub sends : ℕ
+  pub word : ℕ
+  pub takes : ℕ
+  pub reads : ℕ
+  pub writes : ℕ
+  pub audited : ℕ
 
 -- Where the line's word comes from, by whether the port holds the line and whether the line is dirty: 0, the port's own entry; 1, the
 -- lowest-numbered owner; 2, memory.
@@ -37,7 +55,7 @@ writes_in device_read = 0
 -- A row: the table that it is in, by its number; what is known before, access, mode, shared, dirty, the command that is heard, the state; what
 -- follows, the next state, the command that is sent, where the word comes from, whether the holder takes the line's new word, memory reads and
 -- writes; and whether tables that pass the audit have the case.
-abbrev pub row : ℕ → ℕ → ℕ → ℕ → ℕ → ℕ → ℕ → ℕ → ℕ → ℕ → ℕ → Case → Row
+abbrev pub row : ℕ → ℕ → ℕ → ℕ → ℕ → ℕ → ℕ → ℕ → ℕ → ℕ → ℕ → Case → Cells
 row table access mode shared dirty hears state next sends word takes c = record {
   table = table;
   access = access;
@@ -55,7 +73,7 @@ row table access mode shared dirty hears state next sends word takes c = record 
   audited = bit (audited c);
 }
 
-unfoldable pub row_of : Case → Row
+unfoldable pub row_of : Case → Cells
 row_of (own k m shared dirty s) =
     let r = rule k m shared dirty s in
     row 0 (outcome_number k) (mode_number m) (bit shared) (bit dirty) blank (code s) (code r.own) (bus_number r.bus) (source_of (valid s) dirty) blank
@@ -68,7 +86,7 @@ row_of (device_write dirty) =
 row_of device_read = row 5 blank blank blank blank blank blank blank blank (source_of false false) blank device_read
 
 -- The case that a row is of, by the cells that are known before.
-unfoldable pub case_named : Row → Case
+unfoldable pub case_named : Cells → Case
 case_named r =
     let state = or_invalid (state_of r.state) in
     cond (eqb r.table 0) (own (outcome_in_turn r.access) (mode_at r.mode) (eqb r.shared 1) (eqb r.dirty 1) state)
@@ -79,7 +97,7 @@ case_named r =
     device_read))))
 
 -- For the code: a row of a table before its cells are filled in, with no memory access, and met on tables that pass the audit.
-abbrev pub blank_row : ℕ → Row
+abbrev pub blank_row : ℕ → Cells
 blank_row table = record {
   table = table;
   access = blank;

@@ -1,23 +1,77 @@
-// The rows of the published tables: the type of a row. What stands in a row is defined in specs/.
+// The rows of the published tables: what a row is of, and the cells that stand in it. What they are is defined in specs/.
 #![tactic(auto)]
 
-// A row by its cells: the table, then what is known before, what follows, and whether tables that pass the audit have the case. States are
-// by their bytes, bus commands by their numbers; an outcome is 0 for a read, 1 for a write, 2 for a rewrite; a mode 0 for write through; a
-// word is the port's own (0), the lowest-numbered owner's (1) or memory's (2).
+use protocol::rules::Bus;
+use protocol::state::{Mode, State};
+use words::access::Outcome;
+
+// The tables, in their order.
+#[derive(Clone, Copy, PartialEq, Eq)]
+pub enum Table {
+    Access,
+    Snoop,
+    TakeOver,
+    Flush,
+    DeviceWrite,
+    DeviceRead,
+}
+
+// Where a line's word comes from: the port's own entry, the lowest-numbered owner, or memory.
+#[derive(Clone, Copy)]
+pub enum Source {
+    Own,
+    Owner,
+    Memory,
+}
+
+// What a row is of:
+// an access by a port: what it comes to, its mode, whether another port holds the line, whether some port owns it, the port itself included,
+// and the state in which the port sees the line, I where it misses;
+// a holder that hears a bus command in a state;
+// the entry that a miss takes over, in a state, I or of another line;
+// a flush by a port that sees the line in a state;
+// a device write of a line that some port owns, or none; and a device read.
+#[derive(Clone, Copy)]
+pub enum Case {
+    Own {
+        outcome: Outcome,
+        mode: Mode,
+        shared: bool,
+        dirty: bool,
+        state: State,
+    },
+    Snoop {
+        hears: Bus,
+        state: State,
+    },
+    TakeOver {
+        state: State,
+    },
+    Flush {
+        state: State,
+    },
+    DeviceWrite {
+        dirty: bool,
+    },
+    DeviceRead,
+}
+
+// A row by its cells: the table, then what is known before, what follows, and whether tables that pass the audit have the case. A table lacks
+// some of the cells.
 #[derive(Clone, Copy)]
 pub struct Row {
-    pub table: u8,
-    pub access: u8,
-    pub mode: u8,
-    pub shared: u8,
-    pub dirty: u8,
-    pub hears: u8,
-    pub state: u8,
-    pub next: u8,
-    pub sends: u8,
-    pub word: u8,
-    pub takes: u8,
-    pub reads: u8,
-    pub writes: u8,
-    pub audited: u8,
+    pub table: Table,
+    pub access: Option<Outcome>,
+    pub mode: Option<Mode>,
+    pub shared: Option<bool>,
+    pub dirty: Option<bool>,
+    pub hears: Option<Bus>,
+    pub state: Option<State>,
+    pub next: Option<State>,
+    pub sends: Option<Bus>,
+    pub word: Option<Source>,
+    pub takes: Option<bool>,
+    pub reads: bool,
+    pub writes: bool,
+    pub audited: bool,
 }
