@@ -153,7 +153,7 @@ fn is_through(s: State) -> bool
 fn can_arise(shared: bool, dirty: bool, s: State) -> bool
     ensures { result ≡ arises shared dirty s }
 {
-    if is_owned(s) { dirty } else { !dirty | shared }
+    if is_owned(s) { dirty } else { !dirty || shared }
 }
 
 // The case has a row: all but those of an access that can't arise, and a port in I hears nothing.
@@ -179,7 +179,7 @@ pub fn is_printed(case: Case) -> bool
 fn is_own_audited(shared: bool, dirty: bool, s: State) -> bool
     ensures { result ≡ own_audited shared dirty s }
 {
-    can_arise(shared, dirty, s) & (!is_exclusive(s) | !shared) & (!is_through(s) | !dirty)
+    can_arise(shared, dirty, s) && (!is_exclusive(s) || !shared) && (!is_through(s) || !dirty)
 }
 
 // Tables that pass the audit have a holder in state s that hears the command.
@@ -189,7 +189,7 @@ fn is_snoop_audited(bus: Bus, s: State) -> bool
 {
     match bus {
         Bus::Quiet | Bus::Update(_) => !is_exclusive(s),
-        Bus::Share(Mode::Back) => !is_exclusive(s) & is_through(s),
+        Bus::Share(Mode::Back) => !is_exclusive(s) && is_through(s),
         Bus::Share(Mode::Through) | Bus::Invalidate | Bus::ShareOwned => true,
     }
 }
@@ -283,7 +283,7 @@ fn own_row(outcome: Outcome, mode: Mode, shared: bool, dirty: bool, s: State) ->
         next: Some(rule.own),
         sends: Some(rule.bus),
         word: Some(source_of(hit, dirty)),
-        reads: !hit & !dirty,
+        reads: !hit && !dirty,
         writes: rule.stores,
         audited: is_own_audited(shared, dirty, s),
         ..blank_row(Table::Access)
@@ -299,7 +299,7 @@ fn snoop_row(hears: Bus, s: State) -> Row
         state: Some(s),
         next: Some(snooped(hears, s)),
         takes: Some(hands_word(hears)),
-        audited: is_held(s) & is_snoop_audited(hears, s),
+        audited: is_held(s) && is_snoop_audited(hears, s),
         ..blank_row(Table::Snoop)
     }
 }

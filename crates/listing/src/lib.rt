@@ -8,6 +8,13 @@ use rows::{Row, Source, Table};
 use std::io::{Cursor, Result, Write};
 use words::access::Outcome;
 
+// An enum and no trait: the two forms share the columns of a row and no step, and `put_tables` alone tells them apart.
+#[derive(Clone, Copy)]
+pub enum Form {
+    Text,
+    Comma,
+}
+
 // What stands above all tables in text.
 const FRONT: &str = "\
 # What the model does with every order.
@@ -190,12 +197,6 @@ fn put_commas<W: Write>(out: &mut W) -> Result<()> {
         writeln!(out, "{}", truth_text(row.audited))?;
     }
     Ok(())
-}
-
-#[derive(Clone, Copy)]
-pub enum Form {
-    Text,
-    Comma,
 }
 
 // All tables.

@@ -10,7 +10,7 @@ use Rattle.protocol.specs.declared.rules.Bus.{Bus}
 use Rattle.protocol.specs.declared.rules.Bus.TheVariants.{Quiet, Share, Update, Invalidate, ShareOwned}
 use Rattle.protocol.specs.State.{valid, owner, exclusive, mode_of, is_through}
 use Rattle.protocol.specs.Coded.{bus_number, bus_at, mode_number, mode_at}
--- What a row is of (src/lib.rt), by the names that its variants have here.
+-- What a row is of (src/lib.rt). Its variants go by these names here: an order of the model is a Flush, a DeviceRead or a DeviceWrite too.
 pub use Rattle.rows.specs.declared.Case.{Case}
 pub use Rattle.rows.specs.declared.Case.TheVariants.{Own as own, Snoop as snoop, TakeOver as take_over, Flush as flush, DeviceWrite as device_write, DeviceRead as device_read}
 

@@ -24,15 +24,11 @@ pub enum Source {
     Memory,
 }
 
-// What a row is of:
-// an access by a port: what it comes to, its mode, whether another port holds the line, whether some port owns it, the port itself included,
-// and the state in which the port sees the line, I where it misses;
-// a holder that hears a bus command in a state;
-// the entry that a miss takes over, in a state, I or of another line;
-// a flush by a port that sees the line in a state;
-// a device write of a line that some port owns, or none; and a device read.
+// What a row is of.
 #[derive(Clone, Copy)]
 pub enum Case {
+    // An access by a port: what it comes to, its mode, whether another port holds the line, whether some port owns it, the port itself
+    // included, and the state in which the port sees the line, I where it misses.
     Own {
         outcome: Outcome,
         mode: Mode,
@@ -40,16 +36,20 @@ pub enum Case {
         dirty: bool,
         state: State,
     },
+    // A holder that hears a bus command in a state.
     Snoop {
         hears: Bus,
         state: State,
     },
+    // The entry that a miss takes over, in a state, I or of another line.
     TakeOver {
         state: State,
     },
+    // A flush by a port that sees the line in a state.
     Flush {
         state: State,
     },
+    // A device write of a line that some port owns, or none.
     DeviceWrite {
         dirty: bool,
     },
