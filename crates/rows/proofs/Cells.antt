@@ -1,33 +1,18 @@
 -- Laws of the cells of a row. Assumes nothing.
-use Prim.Native.Nat.{ℕ, ◌<◌}
 use mathlib.Core.Path.{◌≡◌, refl}
-use mathlib.Core.Bool.{Bool, true, false, ◌||◌, not}
-use lib.Dec.{eqb}
-use borrow.Author.Tests.{eqb-true}
-use Rattle.words.specs.Bools.{implies, bit}
+use mathlib.Core.Bool.{Bool, true, false}
+use Rattle.words.specs.Bools.{bit}
 use Rattle.words.specs.declared.access.Outcome.{Outcome}
 use Rattle.protocol.specs.declared.state.Mode.{Mode}
 use Rattle.protocol.specs.declared.state.State.{State}
 use Rattle.protocol.specs.declared.rules.Bus.{Bus}
 use Rattle.protocol.specs.declared.rules.Bus.TheVariants.{Invalidate}
 use Rattle.protocol.specs.Rules.{rule, updates}
-use Rattle.protocol.specs.Coded.{bus_number, bus_at}
 use Rattle.protocol.proofs.Rows.{bus_at_lem}
-use Rattle.model.specs.Below.{all_below}
-use Rattle.model.proofs.Below.{below_all}
 use Rattle.rows.specs.Cases.{Case, own, snoop, take_over, flush, device_write, device_read, audited}
 use Rattle.rows.specs.Cells.{row_of}
 use Rattle.rows.specs.Orders.{says, sent}
 use Rattle.rows.specs.Claims.{says_audited}
-
-pub not_or : (a b : Bool) → (not a || b) ≡ implies a b
-not_or true b = refl
-not_or false b = refl
-
--- The number of the command at a number.
-pub bus_number_lem : (n : ℕ) → n < 7 → bus_number (bus_at n) ≡ n
-unfolding bus_number bus_at all_below
-bus_number_lem n h = eqb-true _ _ (below_all (λ n. eqb (bus_number (bus_at n)) n) 7 refl n h)
 
 -- What the cells of a row say.
 pub says-bit : (b : Bool) → says (bit b) ≡ b
