@@ -2,16 +2,14 @@
 #![tactic(auto, unfolding(rows::specs::Cells::row_of, rows::specs::Cells::reads_in, rows::specs::Cells::writes_in, rows::specs::Cases::audited, protocol::specs::Rules::flush_rule))]
 
 ghost use Rattle.std.specs.Prelude.{◌≡◌, ◌↔◌, true, IsSome, IfSome};
-ghost use Rattle.protocol.specs.State.{state_of, or_invalid, is_state, valid, owner, exclusive};
 ghost use Rattle.protocol.specs.Rules.{rule, snooped, updates};
 ghost use Rattle.protocol.specs.Coded.{bus_number, bus_at, mode_at};
 ghost use Rattle.rows.specs.Cases.{outcome_in_turn, state_in_turn, arises, held_through, printed, own_audited, snoop_audited, cases, own_at, case_at};
 ghost use Rattle.rows.specs.Cells.{source_of, blank_row, row_of};
 ghost use Rattle.rows.specs.Numbers.{table_number, source_number, cells};
 
-use protocol::rules::{Bus, Rule};
-use protocol::state::{Byte, Mode, State};
-use protocol::{rules, state};
+use protocol::rules::{self, Bus, Rule};
+use protocol::state::{Mode, State};
 use rows::{Case, Row, Source, Table};
 use words::access::Outcome;
 
@@ -121,26 +119,6 @@ pub fn case_at(k: u8) -> Case
     }
 }
 
-// Not I.
-fn is_held(s: State) -> bool
-    ensures { result ≡ valid s }
-{
-    state::is_valid(Byte::Of(s))
-}
-
-fn is_owned(s: State) -> bool
-    ensures { result ≡ owner s }
-{
-    state::is_owner(Byte::Of(s))
-}
-
-// E or M.
-fn is_exclusive(s: State) -> bool
-    ensures { result ≡ exclusive s }
-{
-    matches!(s, State::E(_) | State::M)
-}
-
 // Held in write through.
 fn is_through(s: State) -> bool
     ensures { result ≡ held_through s }
@@ -153,7 +131,11 @@ fn is_through(s: State) -> bool
 fn can_arise(shared: bool, dirty: bool, s: State) -> bool
     ensures { result ≡ arises shared dirty s }
 {
-    if is_owned(s) { dirty } else { !dirty || shared }
+    if s.is_owner() {
+        dirty
+    } else {
+        !dirty || shared
+    }
 }
 
 // The case has a row: all but those of an access that can't arise, and a port in I hears nothing.
@@ -168,7 +150,7 @@ pub fn is_printed(case: Case) -> bool
             state,
             ..
         } => can_arise(shared, dirty, state),
-        Case::Snoop { state, .. } => is_held(state),
+        Case::Snoop { state, .. } => state.is_valid(),
         Case::TakeOver { .. } | Case::Flush { .. } | Case::DeviceWrite { .. } | Case::DeviceRead =>
             true,
     }
@@ -179,7 +161,7 @@ pub fn is_printed(case: Case) -> bool
 fn is_own_audited(shared: bool, dirty: bool, s: State) -> bool
     ensures { result ≡ own_audited shared dirty s }
 {
-    can_arise(shared, dirty, s) && (!is_exclusive(s) || !shared) && (!is_through(s) || !dirty)
+    can_arise(shared, dirty, s) && (!s.is_exclusive() || !shared) && (!is_through(s) || !dirty)
 }
 
 // Tables that pass the audit have a holder in state s that hears the command.
@@ -188,8 +170,8 @@ fn is_snoop_audited(bus: Bus, s: State) -> bool
     ensures { result ≡ snoop_audited bus s }
 {
     match bus {
-        Bus::Quiet | Bus::Update(_) => !is_exclusive(s),
-        Bus::Share(Mode::Back) => !is_exclusive(s) && is_through(s),
+        Bus::Quiet | Bus::Update(_) => !s.is_exclusive(),
+        Bus::Share(Mode::Back) => !s.is_exclusive() && is_through(s),
         Bus::Share(Mode::Through) | Bus::Invalidate | Bus::ShareOwned => true,
     }
 }
@@ -206,25 +188,14 @@ fn source_of(hit: bool, dirty: bool) -> Source
     }
 }
 
-// The state of a byte that is one.
-fn state_of(b: u8) -> State
-    requires { is_state (state_of b) ≡ true }
-    ensures { result ≡ or_invalid (state_of b) }
-{
-    match state::byte_state(b) {
-        Byte::Of(s) => s,
-        Byte::No => unreachable!(),
-    }
-}
-
 // The rule for a port that sees the line in state s, from its numbers.
 #[tactic(auto, using(crate::proofs::Parts::codes), unfolding(protocol::specs::Coded::coded))]
 fn own_rule(k: Outcome, m: Mode, shared: bool, dirty: bool, s: State) -> Rule
     ensures { result ≡ rule k m shared dirty s }
 {
-    let r = rules::own_rule(k, m, shared, dirty, state::state_byte(s));
+    let r = rules::own_rule(k, m, shared, dirty, u8::from(s));
     Rule {
-        own: state_of(r.own),
+        own: State::try_from(r.own).unwrap(),
         bus: bus_at(r.bus),
         stores: r.stores,
     }
@@ -235,7 +206,7 @@ fn own_rule(k: Outcome, m: Mode, shared: bool, dirty: bool, s: State) -> Rule
 fn snooped(bus: Bus, s: State) -> State
     ensures { result ≡ snooped bus s }
 {
-    state_of(rules::snooped_byte(bus_number(bus), state::state_byte(s)))
+    State::try_from(rules::snooped_byte(bus_number(bus), u8::from(s))).unwrap()
 }
 
 // The command hands the line's new word to the holders.
@@ -272,7 +243,7 @@ fn blank_row(table: Table) -> Row
 fn own_row(outcome: Outcome, mode: Mode, shared: bool, dirty: bool, s: State) -> Row
     ensures { cells result ≡ row_of (Case.Own outcome mode shared dirty s) }
 {
-    let hit = is_held(s);
+    let hit = s.is_valid();
     let rule = own_rule(outcome, mode, shared, dirty, s);
     Row {
         access: Some(outcome),
@@ -299,7 +270,7 @@ fn snoop_row(hears: Bus, s: State) -> Row
         state: Some(s),
         next: Some(snooped(hears, s)),
         takes: Some(hands_word(hears)),
-        audited: is_held(s) && is_snoop_audited(hears, s),
+        audited: s.is_valid() && is_snoop_audited(hears, s),
         ..blank_row(Table::Snoop)
     }
 }
@@ -310,7 +281,7 @@ fn taken_row(s: State) -> Row
 {
     Row {
         state: Some(s),
-        writes: is_owned(s),
+        writes: s.is_owner(),
         ..blank_row(Table::TakeOver)
     }
 }
@@ -322,7 +293,7 @@ fn flush_row(s: State) -> Row
     Row {
         state: Some(s),
         next: Some(State::I),
-        writes: is_owned(s),
+        writes: s.is_owner(),
         ..blank_row(Table::Flush)
     }
 }

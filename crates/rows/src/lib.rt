@@ -6,7 +6,7 @@ use protocol::state::{Mode, State};
 use words::access::Outcome;
 
 // The tables, in their order.
-#[derive(Clone, Copy, PartialEq, Eq)]
+#[derive(Clone, Copy, Debug, PartialEq, Eq)]
 pub enum Table {
     Access,
     Snoop,
@@ -17,7 +17,7 @@ pub enum Table {
 }
 
 // Where a line's word comes from: the port's own entry, the lowest-numbered owner, or memory.
-#[derive(Clone, Copy)]
+#[derive(Clone, Copy, Debug, PartialEq, Eq)]
 pub enum Source {
     Own,
     Owner,
@@ -25,7 +25,7 @@ pub enum Source {
 }
 
 // What a row is of.
-#[derive(Clone, Copy)]
+#[derive(Clone, Copy, Debug, PartialEq, Eq)]
 pub enum Case {
     // An access by a port: what it comes to, its mode, whether another port holds the line, whether some port owns it, the port itself
     // included, and the state in which the port sees the line, I where it misses.
@@ -58,7 +58,7 @@ pub enum Case {
 
 // A row by its cells: the table, then what is known before, what follows, and whether tables that pass the audit have the case. A table lacks
 // some of the cells.
-#[derive(Clone, Copy)]
+#[derive(Clone, Copy, Debug, PartialEq, Eq)]
 pub struct Row {
     pub table: Table,
     pub access: Option<Outcome>,
