@@ -2,14 +2,17 @@
 // ask of each other is asked once, at the turn of the higher port.
 #![tactic(auto)]
 
-ghost use Rattle.std.specs.Prelude.{◌≡◌, true, ◌<◌, length};
+mod lent;
+
+ghost use Rattle.std.specs.Prelude.{◌≡◌, ◌<◌};
 ghost use Rattle.endian.specs.Little.{numbers};
 ghost use Rattle.protocol.specs.State.{state_of};
-ghost use Rattle.shape.specs.Shape.{in_range, entries, tags_bytes, states_bytes};
+ghost use Rattle.shape.specs.Shape.{entries};
 ghost use Rattle.model.specs.Audit.{audit};
-ghost use Rattle.ports.specs.Bytes.{bytes, model_in, tables_in, Filled, Fitting};
+ghost use Rattle.ports.specs.Bytes.{bytes, model_in, tables_in, Fitting};
 ghost use Rattle.audit.specs.Entries.{class_of, is_owner, held_at, compatible, goes_with, pair_passes, below_pass, owns_at, owned_at, entry_passes, index_passes};
 
+use lent::Lent;
 use ports::entry;
 use protocol::{rules, state};
 use shape::Shape;
@@ -42,19 +45,6 @@ fn is_owner(n: u8) -> bool
     n / 4 % 2 == 1
 }
 
-// Entry k of the tables.
-fn held_at(shape: Shape, tags: &[u8], states: &[u8], words: &[u8], k: usize) -> Held
-    requires filled { Filled shape tags.now states.now words.now }
-    requires entry { k < entries shape }
-    ensures { result ≡ held_at (tables_in shape tags.now states.now words.now) k }
-{
-    Held {
-        tag: entry::tag_at(tags, k),
-        class: class_of(states[k]),
-        word: entry::word_at(words, k),
-    }
-}
-
 // The classes n and m of two holders of one line are compatible: of one mode, neither E or M, and not both O or M.
 #[tactic(auto, unfolding(crate::specs::Entries::compatible))]
 fn compatible(n: u8, m: u8) -> bool
@@ -77,122 +67,104 @@ fn goes_with(e: Held, f: Held) -> bool
     (f.word == e.word) & compatible(e.class, f.class)
 }
 
-// Entry e, which isn't I, goes with another port's entry at its index, by the number k: it is of another line, or goes with e.
-fn pair_passes(shape: Shape, tags: &[u8], states: &[u8], words: &[u8], k: usize, e: Held) -> bool
-    requires filled { Filled shape tags.now states.now words.now }
-    requires entry { k < entries shape }
-    ensures { result ≡ pair_passes e (held_at (tables_in shape tags.now states.now words.now) k) }
-{
-    if entry::tag_at(tags, k) != e.tag {
-        return true;
-    }
-    let f = held_at(shape, tags, states, words, k);
-    goes_with(e, f)
-}
-
-// Entry e goes with the entry at index x of every port below p.
-fn below_pass(
-    shape: Shape,
-    tags: &[u8],
-    states: &[u8],
-    words: &[u8],
-    x: usize,
-    p: usize,
-    e: Held,
-) -> bool
-    requires shape { in_range shape ≡ true }
-    requires filled { Filled shape tags.now states.now words.now }
-    requires there { (x < shape.sets) × (p < shape.ports) }
-    ensures { result ≡ below_pass shape (tables_in shape tags.now states.now words.now) x p e }
-{
-    for q in 0..p {
-        let k = shape.entry_number(q, x);
-        if !pair_passes(shape, tags, states, words, k, e) {
-            return false;
+impl Lent<'_> {
+    // Entry k of the tables.
+    fn held_at(&self, k: usize) -> Held
+        requires { k < entries self.now.shape }
+        ensures { result ≡ held_at (tables_in self.now.shape self.now.tags.now self.now.states.now self.now.words.now) k }
+    {
+        Held {
+            tag: entry::tag_at(self.tags, k),
+            class: class_of(self.states[k]),
+            word: entry::word_at(self.words, k),
         }
     }
-    true
-}
 
-// Entry k has the tag given and is O or M.
-fn owns_at(shape: Shape, tags: &[u8], states: &[u8], k: usize, tag: u32) -> bool
-    requires lengths { (length tags.now ≡ tags_bytes shape) × (length states.now ≡ states_bytes shape) }
-    requires entry { k < entries shape }
-    ensures { result ≡ owns_at (numbers 4 (entries shape) tags.now) states.now tag k }
-{
-    (entry::tag_at(tags, k) == tag) & is_owner(class_of(states[k]))
-}
-
-// Some port's entry at index x has the tag given and is O or M.
-fn owned_at(shape: Shape, tags: &[u8], states: &[u8], x: usize, tag: u32) -> bool
-    requires shape { in_range shape ≡ true }
-    requires lengths { (length tags.now ≡ tags_bytes shape) × (length states.now ≡ states_bytes shape) }
-    requires there { x < shape.sets }
-    ensures { result ≡ owned_at shape (numbers 4 (entries shape) tags.now) states.now x tag }
-{
-    for port in 0..shape.ports {
-        let k = shape.entry_number(port, x);
-        if owns_at(shape, tags, states, k, tag) {
+    // Entry e, which isn't I, goes with another port's entry at its index, by the number k: it is of another line, or goes with e.
+    fn pair_passes(&self, k: usize, e: Held) -> bool
+        requires { k < entries self.now.shape }
+        ensures { result ≡ pair_passes e (held_at (tables_in self.now.shape self.now.tags.now self.now.states.now self.now.words.now) k) }
+    {
+        if entry::tag_at(self.tags, k) != e.tag {
             return true;
         }
+        goes_with(e, self.held_at(k))
     }
-    false
-}
 
-// Port p's entry at index x passes: it is I; or its home line is there, it goes with the entries of the ports below p, and memory has its
-// word, or it or some port's entry owns the line.
-fn entry_passes(
-    shape: Shape,
-    memory: &[u8],
-    tags: &[u8],
-    states: &[u8],
-    words: &[u8],
-    x: usize,
-    p: usize,
-) -> bool
-    requires fitting { Fitting shape (bytes memory.now tags.now states.now words.now) }
-    requires there { (x < shape.sets) × (p < shape.ports) }
-    ensures { result ≡ entry_passes shape
-        (model_in shape (bytes memory.now tags.now states.now words.now)) x p }
-{
-    let k = shape.entry_number(p, x);
-    let e = held_at(shape, tags, states, words, k);
-    if e.class < 8 {
-        return e.class == 0;
+    // Entry e goes with the entry at index x of every port below p.
+    fn below_pass(&self, x: usize, p: usize, e: Held) -> bool
+        requires { (x < self.now.shape.sets) × (p < self.now.shape.ports) }
+        ensures { result ≡ below_pass self.now.shape (tables_in self.now.shape self.now.tags.now self.now.states.now self.now.words.now) x p e }
+    {
+        for q in 0..p {
+            let k = self.shape.entry_number(q, x);
+            if !self.pair_passes(k, e) {
+                return false;
+            }
+        }
+        true
     }
-    let home = entry::home_of(e.tag, shape.sets, x);
-    if home >= shape.lines {
-        return false;
-    }
-    if !below_pass(shape, tags, states, words, x, p, e) {
-        return false;
-    }
-    if (e.word == entry::word_at(memory, home)) | is_owner(e.class) {
-        return true;
-    }
-    owned_at(shape, tags, states, x, e.tag)
-}
 
-// Every port's entry at index x passes.
-fn index_passes(
-    shape: Shape,
-    memory: &[u8],
-    tags: &[u8],
-    states: &[u8],
-    words: &[u8],
-    x: usize,
-) -> bool
-    requires fitting { Fitting shape (bytes memory.now tags.now states.now words.now) }
-    requires there { x < shape.sets }
-    ensures { result ≡ index_passes shape
-        (model_in shape (bytes memory.now tags.now states.now words.now)) x }
-{
-    for p in 0..shape.ports {
-        if !entry_passes(shape, memory, tags, states, words, x, p) {
+    // Entry k has the tag given and is O or M.
+    fn owns_at(&self, k: usize, tag: u32) -> bool
+        requires { k < entries self.now.shape }
+        ensures { result ≡ owns_at (numbers 4 (entries self.now.shape) self.now.tags.now) self.now.states.now tag k }
+    {
+        (entry::tag_at(self.tags, k) == tag) & is_owner(class_of(self.states[k]))
+    }
+
+    // Some port's entry at index x has the tag given and is O or M.
+    fn owned_at(&self, x: usize, tag: u32) -> bool
+        requires { x < self.now.shape.sets }
+        ensures { result ≡ owned_at self.now.shape (numbers 4 (entries self.now.shape) self.now.tags.now) self.now.states.now x tag }
+    {
+        for port in 0..self.shape.ports {
+            let k = self.shape.entry_number(port, x);
+            if self.owns_at(k, tag) {
+                return true;
+            }
+        }
+        false
+    }
+
+    // Port p's entry at index x passes: it is I; or its home line is there, it goes with the entries of the ports below p, and memory has its
+    // word, or it or some port's entry owns the line.
+    fn entry_passes(&self, x: usize, p: usize) -> bool
+        requires { (x < self.now.shape.sets) × (p < self.now.shape.ports) }
+        ensures { result ≡ entry_passes self.now.shape
+            (model_in self.now.shape (bytes self.now.memory.now self.now.tags.now self.now.states.now self.now.words.now)) x p }
+    {
+        let k = self.shape.entry_number(p, x);
+        let e = self.held_at(k);
+        if e.class < 8 {
+            return e.class == 0;
+        }
+        let home = entry::home_of(e.tag, self.shape.sets, x);
+        if home >= self.shape.lines {
             return false;
         }
+        if !self.below_pass(x, p, e) {
+            return false;
+        }
+        if (e.word == entry::word_at(self.memory, home)) | is_owner(e.class) {
+            return true;
+        }
+        self.owned_at(x, e.tag)
     }
-    true
+
+    // Every port's entry at index x passes.
+    fn index_passes(&self, x: usize) -> bool
+        requires { x < self.now.shape.sets }
+        ensures { result ≡ index_passes self.now.shape
+            (model_in self.now.shape (bytes self.now.memory.now self.now.tags.now self.now.states.now self.now.words.now)) x }
+    {
+        for p in 0..self.shape.ports {
+            if !self.entry_passes(x, p) {
+                return false;
+            }
+        }
+        true
+    }
 }
 
 // The audit of memory and tables that the shape fits: every entry passes.
@@ -200,8 +172,15 @@ pub fn audit_tables(shape: Shape, memory: &[u8], tags: &[u8], states: &[u8], wor
     requires { Fitting shape (bytes memory.now tags.now states.now words.now) }
     ensures { result ≡ audit shape (model_in shape (bytes memory.now tags.now states.now words.now)) }
 {
+    let lent = Lent {
+        shape,
+        memory,
+        tags,
+        states,
+        words,
+    };
     for x in 0..shape.sets {
-        if !index_passes(shape, memory, tags, states, words, x) {
+        if !lent.index_passes(x) {
             return false;
         }
     }

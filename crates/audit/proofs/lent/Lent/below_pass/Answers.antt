@@ -2,7 +2,7 @@
 use Rattle.audit.specs.Entries.{below_pass}
 use Rattle.model.proofs.Loops.{passing_none, passing_fails, passing_more, passing_done}
 use Rattle.audit.proofs.Places.{pair_at}
-use Rattle.audit.proofs.below_pass.Goals as goal
+use Rattle.audit.proofs.lent.Lent.below_pass.Goals as goal
 
 pub loop-q-init : goal.loop-q-init
 loop-q-init c = passing_none _ _

@@ -1,7 +1,7 @@
 -- The loop goes on while the ports' entries pass. Assumes nothing.
 use Rattle.audit.specs.Entries.{index_passes}
 use Rattle.model.proofs.Loops.{passing_none, passing_fails, passing_more, passing_done}
-use Rattle.audit.proofs.index_passes.Goals as goal
+use Rattle.audit.proofs.lent.Lent.index_passes.Goals as goal
 
 pub loop-p-init : goal.loop-p-init
 loop-p-init c = passing_none _ _

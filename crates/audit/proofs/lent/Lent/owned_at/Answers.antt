@@ -2,7 +2,7 @@
 use Rattle.audit.specs.Entries.{owned_at}
 use Rattle.model.proofs.Loops.{seeking_none, seeking_found, seeking_more, seeking_done}
 use Rattle.audit.proofs.Places.{owns_at_lem}
-use Rattle.audit.proofs.owned_at.Goals as goal
+use Rattle.audit.proofs.lent.Lent.owned_at.Goals as goal
 
 pub loop-port-init : goal.loop-port-init
 loop-port-init c = seeking_none _ _
