@@ -39,9 +39,9 @@ pub fn put_answer(out: &mut [u8], refusal: u64, value: u64, swapped: u64, reads:
     ensures { out.new ≡ answer_bytes
         (record { refusal = refusal; value = value; swapped = swapped; reads = reads; writes = writes }) }
 {
-    endian::write_eight(out, 0, refusal);
-    endian::write_eight(out, 8, value);
-    endian::write_eight(out, 16, swapped);
-    endian::write_eight(out, 24, reads);
-    endian::write_eight(out, 32, writes);
+    endian::write::<8>(out, 0, refusal);
+    endian::write::<8>(out, 8, value);
+    endian::write::<8>(out, 16, swapped);
+    endian::write::<8>(out, 24, reads);
+    endian::write::<8>(out, 32, writes);
 }

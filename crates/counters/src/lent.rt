@@ -30,7 +30,7 @@ pub fn total_at(lent: &[u8], k: usize) -> u64
     requires { (length lent.now ≡ record_length) × (k < places) }
     ensures { result ≡ total_at (totals_in lent.now) k }
 {
-    endian::read_eight(lent, 8 * k)
+    endian::read::<8>(lent, 8 * k)
 }
 
 // A total that has no room.
@@ -82,10 +82,10 @@ fn put_counters(lent: &mut [u8], k: usize, orders: u64, reads: u64, writes: u64,
     ensures { totals_in lent.new ≡ counters_put (totals_in lent.old) k
         (record { orders = orders; reads = reads; writes = writes; swaps = swaps }) }
 {
-    endian::write_eight(lent, 8 * k, orders);
-    endian::write_eight(lent, 8 * READS, reads);
-    endian::write_eight(lent, 8 * WRITES, writes);
-    endian::write_eight(lent, 8 * SWAPS, swaps);
+    endian::write::<8>(lent, 8 * k, orders);
+    endian::write::<8>(lent, 8 * READS, reads);
+    endian::write::<8>(lent, 8 * WRITES, writes);
+    endian::write::<8>(lent, 8 * SWAPS, swaps);
 }
 
 // Counts an answer to an order of this kind.

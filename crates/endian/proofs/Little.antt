@@ -1,12 +1,18 @@
 -- Laws of little-endian numbers: one number in bytes, and a list of them. Assumes nothing.
-use Prim.Native.Nat.{ℕ, zero, suc, ◌+◌, ◌*◌, ◌/◌, ◌%◌, ◌^◌, ◌<◌, ◌≤◌}
+use Prim.Native.Nat.{ℕ, zero, suc, ◌+◌, ◌*◌, ◌/◌, ◌%◌, ◌^◌, ◌-◌, ◌<◌, ◌≤◌}
 use mathlib.Core.Path.{◌≡◌, refl, ap, sym, ◌∙◌}
 use mathlib.Core.List.{List, [], ◌∷◌, ◌++◌}
 use native.Mathlib.Omega.{arith}
 use native.Mathlib.Nat.{add-zero, zero-add, suc-add, add_comm, mul-zero, mul-suc}
-use lib.ListN.{get_or, set, length, take, drop, take-append-drop, length-append, length-drop}
+use lib.ListN.{get_or, set, length, take, drop, replicate, take-append-drop, length-append, length-drop}
 use lib.Pow.{pow-add}
 use lib.Seq.{get_or-drop, drop-drop, sets, length-sets}
+use borrow.Rule.Slice.PartMut.{put_mid}
+use Rattle.std.specs.Int.{w64, byte_at, bytes_low_first, to_le_bytes, from_le_bytes}
+use Rattle.std.proofs.Math.Nat.{div-div-eq-div-mul, div-one, pow-suc}
+use Rattle.std.proofs.lemmas.List.{drop-replicate, take_all}
+use Rattle.std.proofs.lemmas.List.Edits.{sets-eq}
+use Rattle.std.proofs.lemmas.Slice.{put_mid-paste}
 use Rattle.endian.specs.Little.{number, bytes_of, numbers, encoded}
 
 -- One byte more, below the others.
@@ -14,51 +20,86 @@ one_more : (w : ℕ) (s : List ℕ) (at next : ℕ) → at + 1 ≡ next → numb
 unfolding number
 one_more w s at next e = rw (← e, get_or-drop, drop-drop, add-zero)
 
-module _ (s : List ℕ) (at : ℕ) where
-  four_more : (w : ℕ) → number (suc (suc (suc (suc w)))) (drop at s)
-      ≡ get_or s at 0 + 256 * (get_or s (at + 1) 0 + 256 * (get_or s (at + 2) 0 + 256 * (get_or s (at + 3) 0 + 256 * number w (drop (at + 4) s))))
-  four_more w =
-      one_more (suc (suc (suc w))) s at (at + 1) refl
-      ∙ ap (λ (n : ℕ). get_or s at 0 + 256 * n) (one_more (suc (suc w)) s (at + 1) (at + 2) (omega arith)
-      ∙ ap (λ (n : ℕ). get_or s (at + 1) 0 + 256 * n) (one_more (suc w) s (at + 2) (at + 3) (omega arith)
-      ∙ ap (λ (n : ℕ). get_or s (at + 2) 0 + 256 * n) (one_more w s (at + 3) (at + 4) (omega arith))))
+none_more : (bs : List ℕ) (at : ℕ) → number 0 (drop at bs) ≡ 0
+unfolding number
+none_more bs at = refl
 
-  none_more : number 0 (drop (at + 4) s) ≡ 0
-  unfolding number
-  none_more = refl
+-- A number of eight bytes, as the library's method reads it.
+eight_is : (bs : List ℕ) → from_le_bytes w64 bs ≡ number 8 bs
+eight_is bs =
+    let a = one_more 7 bs 0 1 refl in
+    let b = one_more 6 bs 1 2 refl in
+    let c = one_more 5 bs 2 3 refl in
+    let d = one_more 4 bs 3 4 refl in
+    let e = one_more 3 bs 4 5 refl in
+    let f = one_more 2 bs 5 6 refl in
+    let g = one_more 1 bs 6 7 refl in
+    let h = one_more 0 bs 7 8 refl in
+    let i = none_more bs 8 in
+    omega (arith, a, b, c, d, e, f, g, h, i)
 
-  low_four : number 4 (drop at s) ≡ get_or s at 0 + 256 * (get_or s (at + 1) 0 + 256 * (get_or s (at + 2) 0 + 256 * get_or s (at + 3) 0))
-  low_four = let e = four_more 0 in let z = none_more in omega (arith, e, z)
+-- Zeros behind the bytes of a number add nothing.
+number_zeros : (w m : ℕ) → number w (replicate m 0) ≡ 0
+unfolding number
+number_zeros zero m = refl
+number_zeros (suc w) zero = let e = number_zeros w 0 in omega (arith, e)
+number_zeros (suc w) (suc m) = let e = number_zeros w m in omega (arith, e)
 
-  -- Four bytes, as the code reads them.
-  pub four_is : {a b c d : ℕ} → a ≡ get_or s at 0 → b ≡ get_or s (at + 1) 0 → c ≡ get_or s (at + 2) 0 → d ≡ get_or s (at + 3) 0
-      → a + 256 * (b + 256 * (c + 256 * d)) ≡ number 4 (drop at s)
-  four_is ea eb ec ed = rw (ea, eb, ec, ed) (sym low_four)
+number_filled : (w m : ℕ) (bs : List ℕ) → w ≤ length bs → number (w + m) (take w bs ++ replicate m 0) ≡ number w bs
+unfolding number
+number_filled zero m bs r = rw (zero-add m) (number_zeros m m)
+number_filled (suc w) m [] r = absurd (omega arith)
+number_filled (suc w) m (b ∷ bs) r = rw (suc-add w m, number_filled w m bs (omega arith))
 
-  -- Eight bytes by fours.
-  pub eight_is : {x y : ℕ} → x ≡ number 4 (drop at s) → y ≡ number 4 (drop (at + 4) s) → x + 4294967296 * y ≡ number 8 (drop at s)
-  eight_is {x} {y} ex ey = let e = ex ∙ low_four in let f = four_more 4 in omega (arith, e, f, ey)
+-- A number of w bytes is below 256 ^ w.
+pub number_fits : (w : ℕ) (bs : List ℕ) → ((k : ℕ) → get_or bs k 0 < 256) → number w bs < 256 ^ w
+unfolding number
+number_fits zero bs h = omega arith
+number_fits (suc w) bs h =
+    let b : get_or bs 0 0 < 256 = h 0 in
+    let r : number w (drop 1 bs) < 256 ^ w = number_fits w (drop 1 bs) (λ k. rw (get_or-drop 1 bs k 0) (h (1 + k))) in
+    omega (arith, pow-add 256 1 w)
 
--- The lowest four bytes of a number, as the code stores them.
-pub four_stored : (s : List ℕ) (at x : ℕ)
-    → set (set (set (set s at (x % 256)) (at + 1) (x / 256 % 256)) (at + 2) (x / 65536 % 256)) (at + 3) (x / 16777216 % 256) ≡ sets s at (bytes_of 4 x)
+-- The w bytes from a place on, read in front of zeros in an array of eight.
+pub number_read : (w at : ℕ) (s ys : List ℕ) {x : ℕ} → w ≤ 8 → at + w ≤ length s → ((k : ℕ) → get_or s k 0 < 256)
+    → ys ≡ take (at + w - at) (drop at s) → x ≡ from_le_bytes w64 (put_mid 0 w (replicate 8 0) ys)
+    → (x ≡ number w (drop at s)) × (x < 256 ^ w)
+number_read w at s ys h r b e f =
+    let eight : 8 ≡ w + (8 - w) = omega arith in
+    let k : at + w - at ≡ w = omega arith in
+    let room : w ≤ length (drop at s) = rw (length-drop at s) (omega arith) in
+    let is : number 8 (put_mid 0 w (replicate 8 0) ys) ≡ number w (drop at s) =
+    rw (drop-replicate {X = ℕ} w 8 0, e, k)
+    (ap (λ (k : ℕ). number k (take w (drop at s) ++ replicate (8 - w) 0)) eight ∙ number_filled w (8 - w) (drop at s) room) in
+    let n = f ∙ eight_is (put_mid 0 w (replicate 8 0) ys) ∙ is in
+    (n, rw n (number_fits w (drop at s) (λ k. rw (get_or-drop at s k 0) (b (at + k)))))
+
+-- The lowest w bytes of a number, of more that the library's method gives, and these stored.
+lowest : (w i k x : ℕ) → w ≤ k → take w (bytes_low_first i k x) ≡ bytes_of w (x / 256 ^ i)
 unfolding bytes_of
-four_stored s at x =
-    let a : at + 1 ≡ suc at = omega arith in
-    let b : at + 2 ≡ suc (suc at) = omega arith in
-    let c : at + 3 ≡ suc (suc (suc at)) = omega arith in
-    let d : x / 65536 ≡ x / 256 / 256 = omega arith in
-    let e : x / 16777216 ≡ x / 256 / 256 / 256 = omega arith in
-    rw (a, b, c, d, e)
+lowest zero i k x h = refl
+lowest (suc w) i zero x h = absurd (omega arith)
+lowest (suc w) i (suc k) x h =
+    let e : x / 256 ^ suc i ≡ x / 256 ^ i / 256 = sym (div-div-eq-div-mul x (256 ^ i) 256 ∙ ap (λ (n : ℕ). x / n) (sym (pow-suc 256 i))) in
+    rw (byte_is i x, lowest w (suc i) k x (omega arith), e)
+  where
+    byte_is : (i x : ℕ) → byte_at i x ≡ x / 256 ^ i % 256
+    byte_is zero x = omega arith
+    byte_is (suc i) x = refl
 
--- The next four, with the lowest four already stored.
-pub eight_stored : (s : List ℕ) (at x : ℕ) {y z : List ℕ} → y ≡ sets s at (bytes_of 4 x)
-    → z ≡ sets y (at + 4) (bytes_of 4 (x / 4294967296)) → z ≡ sets s at (bytes_of 8 x)
+length-bytes : (w x : ℕ) → length (bytes_of w x) ≡ w
 unfolding bytes_of
-eight_stored s at x {y} {z} ey ez =
-    let a : at + 4 ≡ suc (suc (suc (suc at))) = omega arith in
-    let d : x / 4294967296 ≡ x / 256 / 256 / 256 / 256 = omega arith in
-    ez ∙ rw (ey, a, d)
+length-bytes zero x = refl
+length-bytes (suc w) x = ap suc (length-bytes w (x / 256))
+
+pub bytes_stored : (w at x : ℕ) (s ys : List ℕ) → w ≤ 8 → at + w ≤ length s → ys ≡ take w (to_le_bytes w64 x)
+    → put_mid at (at + w - at) s ys ≡ sets s at (bytes_of w x)
+bytes_stored w at x s ys h r e =
+    let b : ys ≡ bytes_of w x = e ∙ lowest w 0 8 x h ∙ ap (bytes_of w) (div-one x) in
+    let l : length (bytes_of w x) ≡ w = length-bytes w x in
+    let k : at + w - at ≡ w = omega arith in
+    put_mid-paste at (at + w - at) s ys (bytes_of w x) w b (sym k) (sym l)
+    ∙ sym (sets-eq (bytes_of w x) s at (omega (arith, l)) ∙ rw (l, take_all w (bytes_of w x) (omega (arith, l))))
 
 -- A run of stores past the first byte.
 sets_nil : (i : ℕ) (vs : List ℕ) → sets [] i vs ≡ []
@@ -190,11 +231,6 @@ numbers_back w [] h = refl
 numbers_back w (x ∷ xs) h =
     rw (read_back w x (encoded w xs) (h 0), behind_read w x (encoded w xs), numbers_back w xs (λ k. h (suc k)))
 
-length-bytes : (w x : ℕ) → length (bytes_of w x) ≡ w
-unfolding bytes_of
-length-bytes zero x = refl
-length-bytes (suc w) x = ap suc (length-bytes w (x / 256))
-
 pub length-encoded : (w : ℕ) (xs : List ℕ) → length (encoded w xs) ≡ w * length xs
 unfolding encoded
 length-encoded w [] = sym (mul-zero w)
@@ -202,16 +238,7 @@ length-encoded w (x ∷ xs) =
     length-append (bytes_of w x) (encoded w xs)
     ∙ let a = length-bytes w x in let b = length-encoded w xs in let c = mul-suc w (length xs) in omega (arith, a, b, c)
 
--- A number of w bytes is below 256 ^ w.
-pub number_fits : (w : ℕ) (bs : List ℕ) → ((k : ℕ) → get_or bs k 0 < 256) → number w bs < 256 ^ w
-unfolding number
-number_fits zero bs h = omega arith
-number_fits (suc w) bs h =
-    let b : get_or bs 0 0 < 256 = h 0 in
-    let r : number w (drop 1 bs) < 256 ^ w = number_fits w (drop 1 bs) (λ k. rw (get_or-drop 1 bs k 0) (h (1 + k))) in
-    omega (arith, pow-add 256 1 w)
-
--- And so is each number of a list of them.
+-- Each number of a list of them is below 256 ^ w.
 pub numbers_fit : (w n : ℕ) (bs : List ℕ) → ((k : ℕ) → get_or bs k 0 < 256) → (k : ℕ) → get_or (numbers w n bs) k 0 < 256 ^ w
 unfolding numbers
 numbers_fit w zero bs h k = omega (arith, number_fits w bs h)

@@ -30,8 +30,8 @@ pub fn counts_in(n: u64, out: &[u8]) -> Answer
     Answer {
         refusal: 0,
         value: 0,
-        swapped: endian::read_eight(out, 16),
-        reads: endian::read_eight(out, 24),
-        writes: endian::read_eight(out, 32),
+        swapped: endian::read::<8>(out, 16),
+        reads: endian::read::<8>(out, 24),
+        writes: endian::read::<8>(out, 32),
     }
 }

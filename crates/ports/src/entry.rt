@@ -19,21 +19,21 @@ pub fn tag_at(tags: &[u8], k: usize) -> u32
     requires { 4 * k + 4 ≤ length tags.now }
     ensures { result ≡ tag_in tags.now k }
 {
-    endian::read_four(tags, 4 * k) as u32
+    endian::read::<4>(tags, 4 * k) as u32
 }
 
 pub fn word_at(words: &[u8], k: usize) -> u64
     requires { 8 * k + 8 ≤ length words.now }
     ensures { result ≡ word_in words.now k }
 {
-    endian::read_eight(words, 8 * k)
+    endian::read::<8>(words, 8 * k)
 }
 
 pub fn put_word(words: &mut [u8], k: usize, x: u64)
     requires { 8 * k + 8 ≤ length words.old }
     ensures { words.new ≡ sets words.old (8 * k) (bytes_of 8 x) }
 {
-    endian::write_eight(words, 8 * k, x);
+    endian::write::<8>(words, 8 * k, x);
 }
 
 // Entry k of a shape's tables.
@@ -63,7 +63,7 @@ pub fn put_entry(
     ensures { tables_in shape tags.new states.new words.new
         ≡ put_at (tables_in shape tags.old states.old words.old) k e }
 {
-    endian::write_four(tags, 4 * k, e.tag as u64);
+    endian::write::<4>(tags, 4 * k, u64::from(e.tag));
     states[k] = e.byte;
     put_word(words, k, e.word);
 }

@@ -5,5 +5,5 @@ use Rattle.answers.proofs.put_answer.Goals as goal
 
 pub returns : goal.returns
 returns c =
-    answer-stored _ c.args.out.now c.requires (omega arith) (omega arith) (omega arith) (omega arith) (omega arith) c.write_eight.ensures
-    c.write_eight-2.ensures c.write_eight-3.ensures c.write_eight-4.ensures c.write_eight-5.ensures (λ k. omega (arith, c.type_inv.out k))
+    answer-stored _ c.args.out.now c.requires (omega arith) (omega arith) (omega arith) (omega arith) (omega arith) c.write.ensures
+    c.write-2.ensures c.write-3.ensures c.write-4.ensures c.write-5.ensures (λ k. omega (arith, c.type_inv.out k))

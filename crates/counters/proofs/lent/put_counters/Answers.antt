@@ -5,4 +5,4 @@ use Rattle.counters.proofs.lent.put_counters.Goals as goal
 pub returns : goal.returns
 returns c =
     four_put c.args.lent.now c.args.k _ c.requires.0 c.requires.1 c.ranges.orders.fits c.ranges.reads.fits c.ranges.writes.fits c.ranges.swaps.fits
-    c.write_eight.ensures c.write_eight-2.ensures c.write_eight-3.ensures c.write_eight-4.ensures
+    c.write.ensures c.write-2.ensures c.write-3.ensures c.write-4.ensures

@@ -5,4 +5,4 @@ use Rattle.counters.specs.Totals.{places}
 use Rattle.counters.proofs.lent.total_at.Goals as goal
 
 pub returns : goal.returns
-returns c = c.read_eight.ensures ∙ sym (get-numbers 8 places c.args.k c.args.lent.now c.requires.1)
+returns c = c.read.ensures.0 ∙ sym (get-numbers 8 places c.args.k c.args.lent.now c.requires.1)
