@@ -6,9 +6,5 @@ ghost use Rattle.std.specs.Prelude.{◌≡◌, length, replicate};
 pub fn clear_bytes(table: &mut [u8])
     ensures { table.new ≡ replicate (length table.old) 0 }
 {
-    let mut k = 0;
-    while k < table.len() {
-        table[k] = 0;
-        k += 1;
-    }
+    table.fill(0);
 }

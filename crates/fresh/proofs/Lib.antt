@@ -1,2 +1,0 @@
--- Laws of clearing a table.
-pub mod Clearing
