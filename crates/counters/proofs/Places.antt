@@ -1,13 +1,17 @@
--- Totals by their places: room, the loop that looks for a total without it, and the four numbers stored in a record. Assumes nothing.
+-- Totals by their places: room, the search for a total without it, and the four numbers stored in a record. Assumes nothing.
 use Prim.Native.Nat.{ℕ, zero, suc, ◌+◌, ◌*◌, ◌^◌, ◌<◌, ◌≤◌}
-use mathlib.Core.Path.{◌≡◌, refl, ap, ◌∙◌}
+use mathlib.Core.Path.{◌≡◌, sym, ap, ◌∙◌}
 use mathlib.Core.Bool.{Bool, false, ◌||◌}
 use mathlib.Core.List.{List}
 use native.Mathlib.Omega.{arith}
 use native.Mathlib.Decide.{ℕ_discrete}
+use native.Mathlib.Nat.{add-zero}
+use native.Mathlib.Numerals.{add-one}
 use lib.ListN.{set, length}
 use lib.Seq.{sets}
 use borrow.Author.Tests.{ltb-false}
+use Rattle.std.proofs.Math.Bool.{or-false, or_assoc}
+use Rattle.std.specs.List.{list_any, range_with_len}
 use Rattle.words.proofs.Bools.{neither}
 use Rattle.endian.specs.Little.{bytes_of}
 use Rattle.endian.proofs.Little.{number_put}
@@ -35,18 +39,17 @@ module _ (n : Totals) where
   unfolding full
   room_at h k b = room_below places k h b
 
-  -- The loop over the places.
-  pub any_none : false ≡ any_below high_at 0
+  -- The places from k on, looked at one after the other.
+  any_from : (m k : ℕ) → (any_below high_at k || list_any high_at (range_with_len k m)) ≡ any_below high_at (k + m)
   unfolding any_below
-  any_none = refl
+  any_from zero k = rw (add-zero k) (or-false (any_below high_at k))
+  any_from (suc m) k =
+      let e : k + suc m ≡ suc k + m = omega arith in
+      rw (add-one k, e) (sym (or_assoc (any_below high_at k) (high_at k) (list_any high_at (range_with_len (suc k) m))) ∙ any_from m (suc k))
 
-  pub any_more : (k : ℕ) {found r : Bool} {v : ℕ} → found ≡ any_below high_at k → v ≡ total_at n k → r ≡ high v → (found || r) ≡ any_below high_at (k + 1)
-  unfolding any_below
-  any_more k e f g = let m : k + 1 ≡ suc k = omega arith in rw (e, g, f, m)
-
-  pub any_done : {k : ℕ} {found : Bool} → k ≤ places → places ≤ k → found ≡ any_below high_at k → found ≡ full n
-  unfolding full
-  any_done {k} h g e = let f : k ≡ places = omega arith in rw f at e
+  pub full_is : {b : Bool} → b ≡ list_any high_at (range_with_len 0 places) → b ≡ full n
+  unfolding full any_below
+  full_is e = e ∙ any_from places 0
 
 -- The four numbers, stored one after the other.
 pub four_put : (bs : List ℕ) (k : ℕ) (c : Counters) → length bs ≡ record_length → k ≤ kinds

@@ -23,7 +23,7 @@ pub const PLACES: usize = KINDS + 4;
 pub const RECORD_BYTES: usize = 8 * PLACES;
 
 // The highest total to which an order may still be added: 2 to the 64, less 3.
-const MOST: u64 = 18446744073709551613;
+const MOST: u64 = u64::MAX - 2;
 
 // The total at a place.
 pub fn total_at(lent: &[u8], k: usize) -> u64
@@ -46,13 +46,7 @@ pub fn is_full(lent: &[u8]) -> bool
     requires { length lent.now ≡ record_length }
     ensures { result ≡ full (totals_in lent.now) }
 {
-    let mut found = false;
-    let mut k = 0;
-    while k < PLACES {
-        found = found | is_high(total_at(lent, k));
-        k += 1;
-    }
-    found
+    (0..PLACES).any(|k| is_high(total_at(lent, k)))
 }
 
 // The place under which an order is counted.
@@ -77,24 +71,24 @@ fn counters_at(lent: &[u8], k: usize) -> Counters
 }
 
 // Puts them back.
-fn put_counters(lent: &mut [u8], k: usize, orders: u64, reads: u64, writes: u64, swaps: u64)
+fn put_counters(lent: &mut [u8], k: usize, c: Counters)
     requires { (length lent.old ≡ record_length) × (k ≤ kinds) }
-    ensures { totals_in lent.new ≡ counters_put (totals_in lent.old) k
-        (record { orders = orders; reads = reads; writes = writes; swaps = swaps }) }
+    ensures { totals_in lent.new ≡ counters_put (totals_in lent.old) k c }
 {
-    endian::write::<8>(lent, 8 * k, orders);
-    endian::write::<8>(lent, 8 * READS, reads);
-    endian::write::<8>(lent, 8 * WRITES, writes);
-    endian::write::<8>(lent, 8 * SWAPS, swaps);
+    endian::write::<8>(lent, 8 * k, c.orders);
+    endian::write::<8>(lent, 8 * READS, c.reads);
+    endian::write::<8>(lent, 8 * WRITES, c.writes);
+    endian::write::<8>(lent, 8 * SWAPS, c.swaps);
 }
 
 // Counts an answer to an order of this kind.
 pub fn count(lent: &mut [u8], kind: usize, a: Answer)
-    requires lent_len { (length lent.old ≡ record_length) × (full (totals_in lent.old) ≡ false) }
+    requires fitting { length lent.old ≡ record_length }
+    requires room { full (totals_in lent.old) ≡ false }
     requires few { Few kind a }
     ensures { totals_in lent.new ≡ totals_after (totals_in lent.old) kind a }
 {
     let k = order_place(kind, a.refusal);
-    let c = crate::updated(counters_at(lent, k), a);
-    put_counters(lent, k, c.orders, c.reads, c.writes, c.swaps);
+    let c = counters_at(lent, k).updated(a);
+    put_counters(lent, k, c);
 }

@@ -18,34 +18,25 @@ pub struct Counters {
     pub swaps: u64,
 }
 
-// The counters with one answer added.
-#[tactic(auto, unfolding(crate::specs::Counters::counters_after))]
-fn added(c: Counters, a: Answer) -> Counters
-    requires { Room c a }
-    ensures { result ≡ counters_after c a }
-{
-    Counters {
-        orders: c.orders + 1,
-        reads: c.reads + a.reads,
-        writes: c.writes + a.writes,
-        swaps: c.swaps + a.swapped,
+impl Counters {
+    // The counters are lent, and brought up to date in place: one answer is added.
+    #[tactic(auto, unfolding(crate::specs::Counters::counters_after))]
+    pub fn bring_up_to_date(&mut self, a: Answer)
+        requires { Room self.old a }
+        ensures { self.new ≡ counters_after self.old a }
+    {
+        self.orders += 1;
+        self.reads += a.reads;
+        self.writes += a.writes;
+        self.swaps += a.swapped;
     }
-}
 
-// The counters are lent, and brought up to date in place: one answer is added.
-pub fn bring_up_to_date(c: &mut Counters, a: Answer)
-    requires { Room c.old a }
-    ensures { c.new ≡ counters_after c.old a }
-{
-    *c = added(*c, a);
-}
-
-// The same for a caller that has the counters by value: a local is lent.
-pub fn updated(c: Counters, a: Answer) -> Counters
-    requires { Room c a }
-    ensures { result ≡ counters_after c a }
-{
-    let mut next = c;
-    bring_up_to_date(&mut next, a);
-    next
+    // The same for a caller that has the counters by value.
+    pub fn updated(mut self, a: Answer) -> Counters
+        requires { Room self a }
+        ensures { result ≡ counters_after self a }
+    {
+        self.bring_up_to_date(a);
+        self
+    }
 }

@@ -1,16 +1,20 @@
 -- Laws of little-endian numbers: one number in bytes, and a list of them. Assumes nothing.
 use Prim.Native.Nat.{ℕ, zero, suc, ◌+◌, ◌*◌, ◌/◌, ◌%◌, ◌^◌, ◌-◌, ◌<◌, ◌≤◌}
 use mathlib.Core.Path.{◌≡◌, refl, ap, sym, ◌∙◌}
-use mathlib.Core.List.{List, [], ◌∷◌, ◌++◌}
+use mathlib.Core.List.{List, [], ◌∷◌, ◌++◌, reverse}
 use native.Mathlib.Omega.{arith}
 use native.Mathlib.Nat.{add-zero, zero-add, suc-add, add_comm, mul-zero, mul-suc}
-use lib.ListN.{get_or, set, length, take, drop, replicate, take-append-drop, length-append, length-drop}
+use lib.ListN.{get_or, set, length, take, drop, take-append-drop, length-append, length-drop}
 use lib.Pow.{pow-add}
 use lib.Seq.{get_or-drop, drop-drop, sets, length-sets}
 use borrow.Rule.Slice.PartMut.{put_mid}
-use Rattle.std.specs.Int.{w64, byte_at, bytes_low_first, to_le_bytes, from_le_bytes}
-use Rattle.std.proofs.Math.Nat.{div-div-eq-div-mul, div-one, pow-suc}
-use Rattle.std.proofs.lemmas.List.{drop-replicate, take_all}
+use Rattle.std.specs.Int.{w64, byte_at, bytes_low_first, to_le_bytes}
+use Rattle.std.specs.Int.Bits.{bit_or}
+use Rattle.std.specs.List.{fold}
+use Rattle.std.proofs.Math.Nat.{div-div-eq-div-mul, div-one, pow-le-pow_right, pow-suc}
+use Rattle.std.proofs.lemmas.Grind.{or_after_shift}
+use Rattle.std.proofs.lemmas.List.{reverse-append, take_all}
+use Rattle.std.proofs.lemmas.List.Sums.{fold-append}
 use Rattle.std.proofs.lemmas.List.Edits.{sets-eq}
 use Rattle.std.proofs.lemmas.Slice.{put_mid-paste}
 use Rattle.endian.specs.Little.{number, bytes_of, numbers, encoded}
@@ -19,37 +23,6 @@ use Rattle.endian.specs.Little.{number, bytes_of, numbers, encoded}
 one_more : (w : ℕ) (s : List ℕ) (at next : ℕ) → at + 1 ≡ next → number (suc w) (drop at s) ≡ get_or s at 0 + 256 * number w (drop next s)
 unfolding number
 one_more w s at next e = rw (← e, get_or-drop, drop-drop, add-zero)
-
-none_more : (bs : List ℕ) (at : ℕ) → number 0 (drop at bs) ≡ 0
-unfolding number
-none_more bs at = refl
-
--- A number of eight bytes, as the library's method reads it.
-eight_is : (bs : List ℕ) → from_le_bytes w64 bs ≡ number 8 bs
-eight_is bs =
-    let a = one_more 7 bs 0 1 refl in
-    let b = one_more 6 bs 1 2 refl in
-    let c = one_more 5 bs 2 3 refl in
-    let d = one_more 4 bs 3 4 refl in
-    let e = one_more 3 bs 4 5 refl in
-    let f = one_more 2 bs 5 6 refl in
-    let g = one_more 1 bs 6 7 refl in
-    let h = one_more 0 bs 7 8 refl in
-    let i = none_more bs 8 in
-    omega (arith, a, b, c, d, e, f, g, h, i)
-
--- Zeros behind the bytes of a number add nothing.
-number_zeros : (w m : ℕ) → number w (replicate m 0) ≡ 0
-unfolding number
-number_zeros zero m = refl
-number_zeros (suc w) zero = let e = number_zeros w 0 in omega (arith, e)
-number_zeros (suc w) (suc m) = let e = number_zeros w m in omega (arith, e)
-
-number_filled : (w m : ℕ) (bs : List ℕ) → w ≤ length bs → number (w + m) (take w bs ++ replicate m 0) ≡ number w bs
-unfolding number
-number_filled zero m bs r = rw (zero-add m) (number_zeros m m)
-number_filled (suc w) m [] r = absurd (omega arith)
-number_filled (suc w) m (b ∷ bs) r = rw (suc-add w m, number_filled w m bs (omega arith))
 
 -- A number of w bytes is below 256 ^ w.
 pub number_fits : (w : ℕ) (bs : List ℕ) → ((k : ℕ) → get_or bs k 0 < 256) → number w bs < 256 ^ w
@@ -60,19 +33,32 @@ number_fits (suc w) bs h =
     let r : number w (drop 1 bs) < 256 ^ w = number_fits w (drop 1 bs) (λ k. rw (get_or-drop 1 bs k 0) (h (1 + k))) in
     omega (arith, pow-add 256 1 w)
 
--- The w bytes from a place on, read in front of zeros in an array of eight.
-pub number_read : (w at : ℕ) (s ys : List ℕ) {x : ℕ} → w ≤ 8 → at + w ≤ length s → ((k : ℕ) → get_or s k 0 < 256)
-    → ys ≡ take (at + w - at) (drop at s) → x ≡ from_le_bytes w64 (put_mid 0 w (replicate 8 0) ys)
-    → (x ≡ number w (drop at s)) × (x < 256 ^ w)
-number_read w at s ys h r b e f =
-    let eight : 8 ≡ w + (8 - w) = omega arith in
+-- The bytes of a number, taken in from the highest down.
+abbrev pub taken_in : ℕ → ℕ → ℕ
+taken_in n b = bit_or (n * 256 % 2 ^ 64) b
+
+number_taken : (w : ℕ) (bs : List ℕ) → ((k : ℕ) → get_or bs k 0 < 256) → w ≤ 8 → w ≤ length bs → fold taken_in 0 (reverse (take w bs)) ≡ number w bs
+unfolding number
+number_taken zero bs b h r = refl
+number_taken (suc w) [] b h r = absurd (omega arith)
+number_taken (suc w) (x ∷ bs) b h r =
+    let more : (k : ℕ) → get_or bs k 0 < 256 = λ k. b (suc k) in
+    let fits : number w bs < 256 ^ w = number_fits w bs more in
+    let high : 256 ^ w ≤ 256 ^ 7 = pow-le-pow_right {n = 256} (omega arith) {i = w} {j = 7} (omega arith) in
+    let low : x < 256 = b 0 in
+    ap (fold taken_in 0) (reverse-append (x ∷ []) (take w bs)) ∙ fold-append taken_in 0 (reverse (take w bs)) (x ∷ [])
+    ∙ rw (number_taken w bs more (omega arith) (omega arith))
+    (or_after_shift (number w bs) 256 (2 ^ 64) x refl low (omega (arith, fits, high)) ∙ omega arith)
+
+-- The w bytes from a place on.
+pub number_read : (w at : ℕ) (s : List ℕ) {x : ℕ} → w ≤ 8 → at + w ≤ length s → ((k : ℕ) → get_or s k 0 < 256)
+    → x ≡ fold taken_in 0 (reverse (take (at + w - at) (drop at s))) → (x ≡ number w (drop at s)) × (x < 256 ^ w)
+number_read w at s {x} h r b e =
     let k : at + w - at ≡ w = omega arith in
     let room : w ≤ length (drop at s) = rw (length-drop at s) (omega arith) in
-    let is : number 8 (put_mid 0 w (replicate 8 0) ys) ≡ number w (drop at s) =
-    rw (drop-replicate {X = ℕ} w 8 0, e, k)
-    (ap (λ (k : ℕ). number k (take w (drop at s) ++ replicate (8 - w) 0)) eight ∙ number_filled w (8 - w) (drop at s) room) in
-    let n = f ∙ eight_is (put_mid 0 w (replicate 8 0) ys) ∙ is in
-    (n, rw n (number_fits w (drop at s) (λ k. rw (get_or-drop at s k 0) (b (at + k)))))
+    let bytes : (k : ℕ) → get_or (drop at s) k 0 < 256 = λ k. rw (get_or-drop at s k 0) (b (at + k)) in
+    let n : x ≡ number w (drop at s) = e ∙ rw k (number_taken w (drop at s) bytes h room) in
+    (n, rw n (number_fits w (drop at s) bytes))
 
 -- The lowest w bytes of a number, of more that the library's method gives, and these stored.
 lowest : (w i k x : ℕ) → w ≤ k → take w (bytes_low_first i k x) ≡ bytes_of w (x / 256 ^ i)

@@ -11,9 +11,8 @@ pub fn read<const N: usize>(s: &[u8], at: usize) -> u64
     requires room { at + N ≤ length s.now }
     ensures { (result ≡ number N (drop at s.now)) × (result < 256 ^ N) }
 {
-    let mut bytes = [0; 8];
-    bytes[..N].copy_from_slice(&s[at..at + N]);
-    u64::from_le_bytes(bytes)
+    let bytes = &s[at..at + N];
+    bytes.iter().rev().fold(0, |n, b| (n << 8) | u64::from(*b))
 }
 
 // The lowest N bytes of x, stored from at on.

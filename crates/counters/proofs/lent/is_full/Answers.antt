@@ -1,17 +1,13 @@
--- The loop keeps whether a total passed so far has no room. Assumes nothing.
-use Rattle.std.proofs.Common.{arith}
-use Rattle.counters.specs.Totals.{totals_in}
-use Rattle.counters.proofs.Places.{any_none, any_more, any_done}
+-- The places are looked at one after the other. Assumes nothing.
+use Rattle.std.proofs.Common.{rules, refl}
+use Rattle.std.proofs.lemmas.Iterator.{YieldsList-from_range}
+use Rattle.std.proofs.lemmas.Iterator.Search.{any_from_yields_List}
+use Rattle.counters.specs.Totals.{places, total_at, high, totals_in}
+use Rattle.counters.proofs.Places.{full_is}
 use Rattle.counters.proofs.lent.is_full.Goals as goal
 
-pub loop-k-init : goal.loop-k-init
-loop-k-init c = (omega arith, any_none (totals_in c.args.lent.now))
-
-pub loop-k-preserved : goal.loop-k-preserved
-loop-k-preserved c = (
-  omega (arith, c.loop-k-test.true),
-  any_more (totals_in c.args.lent.now) _ c.loop-k.invariant.1 c.total_at.ensures c.is_high-found.ensures,
-)
-
 pub returns : goal.returns
-returns c = any_done (totals_in c.args.lent.now) c.loop-k.invariant.0 c.loop-k-test.false c.loop-k.invariant.1
+returns c =
+    full_is (totals_in c.args.lent.now)
+    (any_from_yields_List (λ k. high (total_at (totals_in c.args.lent.now) k)) _ _ _ c.any.ensures.ran
+    (YieldsList-from_range 0 places places refl refl) (λ x b q k. search rules))
