@@ -18,9 +18,8 @@ use Rattle.lengths.specs.Lengths.{tables_fit}
 use Rattle.lengths.proofs.Lengths.{tables_fitting}
 use Rattle.letters.specs.declared.Way.{Way}
 use Rattle.letters.specs.declared.Way.TheVariants.{ToNew}
-use Rattle.letters.specs.declared.Converted.{Converted}
-use Rattle.letters.specs.declared.Converted.TheVariants.{To}
-use Rattle.letters.specs.Letters.{converted, byte_from}
+use Rattle.std.specs.Prelude.{Ok}
+use Rattle.letters.specs.Letters.{Converted, converted, byte_from}
 use Rattle.edition.specs.Convert.{Tables, fit, conversion_refusal, moved, conversion, convert}
 use Rattle.edition.specs.Rules.{keeps_rules}
 use Rattle.edition.specs.Claims.{ThereAndBack, old_in, AuditAgrees, KeptConverts, RefusedConvertsNothing}
@@ -43,7 +42,7 @@ map_back : (way : Way) (l : List ℕ) → AllBecome way l → mapped (other_way 
 map_back way [] h = refl
 map_back way (b ∷ l) h = rw (returns_byte way b (h 0 (omega arith)), map_back way l (λ k p. h (suc k) (omega arith))) refl
 
-becomes_to : {c : Converted} (b : ℕ) → c ≡ To b → Becomes c
+becomes_to : {c : Converted} (b : ℕ) → c ≡ Ok b → Becomes c
 becomes_to b e = rw e (refl, refl)
 
 all_back : (way : Way) (l : List ℕ) → AllBecome way l → AllBecome (other_way way) (mapped way l)

@@ -1,14 +1,23 @@
 -- The conversion of tables, by its returns, and there and back. Assumes nothing.
 use Prim.Native.Nat.{ℕ, ◌+◌, ◌<◌, ◌≤◌}
-use mathlib.Core.Path.{◌≡◌, refl, sym, ap, ◌∙◌}
-use mathlib.Core.Logic.{◌≢◌}
-use mathlib.Core.Bool.{Bool, true, false, cond, ◌&&◌, ◌||◌, not}
+use mathlib.Core.Path.{◌≡◌, refl, sym, ap, subst, ◌∙◌}
+use mathlib.Core.Logic.{◌≢◌, ◌⊎◌, inl, inr}
+use mathlib.Core.Bool.{Bool, true, false, cond, ◌&&◌, not}
 use mathlib.Core.List.{List, map}
 use native.Mathlib.Omega.{arith}
 use lib.Dec.{eqb}
 use lib.ListN.{get_or, length}
 use borrow.Author.Tests.{eq-eqb, ne_eqb, not-true, not-false}
+use Rattle.std.specs.Prelude.{Option, Some, None, Result, Ok, Err, ⊤}
 use Rattle.words.proofs.Bools.{Is, and_l, and_r, by_cond}
+use Rattle.refusals.specs.declared.Refusal.{Refusal}
+use Rattle.refusals.specs.declared.Refusal.TheVariants.{State as NoState, Through as InThrough}
+use Rattle.refusals.specs.Numbers.{number, refusal_in}
+use Rattle.protocol.specs.declared.state.Mode.{Mode}
+use Rattle.protocol.specs.declared.state.Mode.TheVariants.{Through, Back}
+use Rattle.protocol.specs.declared.state.State.{State}
+use Rattle.protocol.specs.declared.state.State.TheVariants.{I, S, E, O, M}
+use Rattle.protocol.specs.State.{state_of}
 use Rattle.shape.specs.declared.Shape.{Shape}
 use Rattle.shape.specs.Shape.{in_range}
 use Rattle.model.specs.Below.{any_below}
@@ -16,12 +25,40 @@ use Rattle.model.proofs.Below.{none_below, below_none}
 use Rattle.model.proofs.Loops.{seeking_found}
 use Rattle.lengths.specs.Lengths.{tables_fit}
 use Rattle.lengths.proofs.Lengths.{tables_fitting}
+use Rattle.letters.specs.declared.Letter.{Letter}
+use Rattle.letters.specs.declared.Letter.TheVariants.{Shared, Exclusive}
 use Rattle.letters.specs.declared.Way.{Way}
-use Rattle.letters.specs.declared.Converted.{Converted}
-use Rattle.letters.specs.Letters.{converted, is_no_state, is_in_through, byte_from}
+use Rattle.letters.specs.declared.Way.TheVariants.{ToNew, ToOld}
+use Rattle.letters.specs.Letters.{Converted, letter_of, to_new, without_mode, to_old, converted, is_no_state, is_in_through, byte_from}
 use Rattle.edition.specs.Convert.{Tables, tables, fit, states_refusal, conversion_refusal, moved, conversion, convert}
 use Rattle.letters.specs.Claims.{Becomes}
 use Rattle.edition.proofs.Loops.{Asking, asking_more, asking_done}
+
+-- A byte that is refused is no state, or it is in write through.
+abbrev IsTold : Converted → Type 0
+IsTold (Ok b) = ⊤
+IsTold (Err r) = (r ≡ NoState) ⊎ (r ≡ InThrough)
+
+told : (way : Way) (b : ℕ) → IsTold (converted way b)
+unfolding converted
+told ToNew b = of_letter (letter_of b)
+  where
+    of_letter : (x : Option Letter) → IsTold (to_new x)
+    of_letter (Some l) = tt
+    of_letter None = inl refl
+told ToOld b = of_state (state_of b)
+  where
+    of_mode : (m : Mode) (l : Letter) → IsTold (without_mode m l)
+    of_mode Through l = inr refl
+    of_mode Back l = tt
+
+    of_state : (x : Option State) → IsTold (to_old x)
+    of_state (Some I) = tt
+    of_state (Some (S m)) = of_mode m Shared
+    of_state (Some (E m)) = of_mode m Exclusive
+    of_state (Some O) = tt
+    of_state (Some M) = tt
+    of_state None = inl refl
 
 module _ (way : Way) (states : List ℕ) where
   -- The two tests of a byte.
@@ -31,27 +68,31 @@ module _ (way : Way) (states : List ℕ) where
   abbrev pub in_through_at : ℕ → Bool
   in_through_at k = is_in_through (converted way (get_or states k 0))
 
-  module _ {k : ℕ} {some : Bool} (v : Asking no_state_at in_through_at (length states) k some) where
-    pub found_no_state : {b : Bool} → k < length states → b ≡ no_state_at k → b ≡ true → 10 ≡ states_refusal way states
+  -- What is kept where a byte becomes one of the other edition, and where it is in write through.
+  module _ {k : ℕ} {found : Result (Unit {0}) Refusal} (v : Asking no_state_at in_through_at (length states) k found) where
+    pub found_no_state : {r : Refusal} → k < length states → converted way (get_or states k 0) ≡ Err r → (r ≡ InThrough → ⊥)
+        → number r ≡ states_refusal way states
     unfolding states_refusal
-    found_no_state h e u = rw (← seeking_found no_state_at v.seeking h e u)
+    found_no_state {r} h e u = elim (subst IsTold e (told way (get_or states k 0))) [
+      | inl z ↦
+          let b : true ≡ no_state_at k = sym (ap is_no_state e ∙ ap (λ (x : Refusal). eqb (number x) 10) z) in
+          ap number z ∙ rw (← seeking_found no_state_at v.seeking h b refl)
+      | inr z ↦ absurd (u z)
+    ]
 
-    pub found_through : length states ≤ k → some ≡ true → 11 ≡ states_refusal way states
+    pub byte_more : {b : ℕ} → k < length states → converted way (get_or states k 0) ≡ Ok b → Asking no_state_at in_through_at (length states) (k + 1) found
+    byte_more h e = asking_more no_state_at in_through_at v h (ap is_no_state e) (rw e)
+
+    pub through_more : {r : Refusal} → k < length states → converted way (get_or states k 0) ≡ Err r → (r ≡ NoState → ⊥)
+        → Asking no_state_at in_through_at (length states) (k + 1) (Err r)
+    through_more {r} h e u = elim (subst IsTold e (told way (get_or states k 0))) [
+      | inl z ↦ absurd (u z)
+      | inr z ↦ asking_more no_state_at in_through_at v h (ap is_no_state e ∙ ap (λ (x : Refusal). eqb (number x) 10) z) (rw (e, z))
+    ]
+
+    pub found_is : length states ≤ k → refusal_in found ≡ states_refusal way states
     unfolding states_refusal
-    found_through h u = let d = asking_done no_state_at in_through_at v h in rw (← d.0, ← d.1, u)
-
-    pub found_none : length states ≤ k → some ≡ false → 0 ≡ states_refusal way states
-    unfolding states_refusal
-    found_none h u = let d = asking_done no_state_at in_through_at v h in rw (← d.0, ← d.1, u)
-
-    -- The same of a byte converted first, and the next step: c is what the byte at k becomes.
-    pub told_no_state : {c : Converted} {b : Bool} → k < length states → c ≡ converted way (get_or states k 0) → b ≡ is_no_state c → b ≡ true
-        → 10 ≡ states_refusal way states
-    told_no_state h ec eb u = found_no_state h (eb ∙ ap is_no_state ec) u
-
-    pub told_more : {c : Converted} {b x : Bool} → k < length states → c ≡ converted way (get_or states k 0) → b ≡ is_no_state c → b ≡ false
-        → x ≡ is_in_through c → Asking no_state_at in_through_at (length states) (k + 1) (some || x)
-    told_more h ec eb u ex = asking_more no_state_at in_through_at v h (eb ∙ ap is_no_state ec) u (ex ∙ ap is_in_through ec)
+    found_is h = let d = asking_done no_state_at in_through_at v h in rw (← d.0, ← d.1)
 
   -- No refusal: every byte becomes one of the other edition.
   pub all_become : states_refusal way states ≡ 0 → (k : ℕ) → k < length states → Becomes (converted way (get_or states k 0))

@@ -7,7 +7,7 @@ use native.Mathlib.Omega.{arith}
 use lib.Dec.{eqb}
 use lib.ListN.{get_or, get_or-map}
 use borrow.Author.Tests.{leb-true}
-use Rattle.std.specs.Prelude.{Some}
+use Rattle.std.specs.Prelude.{Option, Some, None}
 use Rattle.words.specs.Bools.{implies}
 use Rattle.words.proofs.Bools.{Is, and_l, and_r, and_all, imp}
 use Rattle.protocol.specs.declared.state.State.TheVariants.{I}
@@ -23,8 +23,6 @@ use Rattle.model.specs.Audit.{entries_sound, every_two, line_passes, tables_pass
 use Rattle.model.specs.Audit as new
 use Rattle.letters.specs.declared.Letter.{Letter}
 use Rattle.letters.specs.declared.Letter.TheVariants.{Invalid, Shared, Exclusive, Owned, Modified}
-use Rattle.letters.specs.declared.OldByte.{OldByte}
-use Rattle.letters.specs.declared.OldByte.TheVariants.{Known, Unknown}
 use Rattle.letters.specs.declared.Way.TheVariants.{ToNew}
 use Rattle.letters.specs.Letters.{letter_of, in_back, to_new, converted, is_no_state, byte_from}
 use Rattle.edition.specs.Rules.{OldSet, is_held, is_owner, is_exclusive, is_old_byte, or_invalid, letter_at, entry_kept, letter_seen, line_kept, keeps_rules}
@@ -58,10 +56,10 @@ one_mode x y =
     imp {a = is_held x && is_held y} (λ h. rw (held_back x (and_l (is_held x) (is_held y) h), held_back y (and_r (is_held x) (is_held y) h)) refl)
 
 -- The state of the byte that an old byte becomes.
-state_of_new : (x : OldByte) → state_of (byte_from (to_new x)) ≡ Some (in_back (or_invalid x))
+state_of_new : (x : Option Letter) → state_of (byte_from (to_new x)) ≡ Some (in_back (or_invalid x))
 unfolding state_of
-state_of_new (Known l) = state_of-code (in_back l)
-state_of_new Unknown = refl
+state_of_new (Some l) = state_of-code (in_back l)
+state_of_new None = refl
 
 -- Bytes that are at most 4 are those that become a byte.
 small_becomes : (b : ℕ) → Is (is_old_byte b) → is_no_state (converted ToNew b) ≡ false

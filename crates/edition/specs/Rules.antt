@@ -1,6 +1,6 @@
 -- The audit's rules read on the five letters, sentence by sentence, as a test that computes on the bytes of an old set. It knows nothing of
 -- the conversion and of the new state bytes, and of the new audit only what every two ports are (`every_two`).
-use Rattle.std.specs.Prelude.{ℕ, ◌+◌, ◌*◌, ◌%◌, Bool, true, false, cond, ◌&&◌, ◌||◌, not, List, get_or, eqb, ltb, leb}
+use Rattle.std.specs.Prelude.{ℕ, ◌+◌, ◌*◌, ◌%◌, Bool, true, false, cond, ◌&&◌, ◌||◌, not, List, get_or, eqb, ltb, leb, Option, Some, None}
 use Rattle.words.specs.Bools.{implies}
 use Rattle.shape.specs.declared.Shape.{Shape}
 use Rattle.shape.specs.Shape.{entries, tag_of, entry_of}
@@ -8,8 +8,6 @@ use Rattle.model.specs.Below.{all_below, any_below}
 use Rattle.model.specs.Audit.{every_two}
 use Rattle.letters.specs.declared.Letter.{Letter}
 use Rattle.letters.specs.declared.Letter.TheVariants.{Invalid, Shared, Exclusive, Owned, Modified}
-use Rattle.letters.specs.declared.OldByte.{OldByte}
-use Rattle.letters.specs.declared.OldByte.TheVariants.{Known, Unknown}
 use Rattle.letters.specs.Letters.{letter_of}
 
 -- A set of the old edition beside its main memory, as lists of numbers.
@@ -51,9 +49,9 @@ is_o Owned = true
 is_o Modified = false
 
 -- A byte above 4 is read as I here: a set that has one is not let through, by the first rule.
-abbrev pub or_invalid : OldByte → Letter
-or_invalid (Known l) = l
-or_invalid Unknown = Invalid
+abbrev pub or_invalid : Option Letter → Letter
+or_invalid (Some l) = l
+or_invalid None = Invalid
 
 -- A byte of the old edition.
 unfoldable pub is_old_byte : ℕ → Bool

@@ -4,14 +4,13 @@ use mathlib.Core.Path.{◌≡◌, refl, sym, ap, ◌∙◌}
 use mathlib.Core.Bool.{false, false≢true}
 use native.Mathlib.Omega.{arith}
 use borrow.Author.Tests.{ne_eqb}
-use Rattle.std.specs.Prelude.{Option, Some, None}
+use Rattle.std.specs.Prelude.{Option, Some, None, Ok, Err}
+use Rattle.refusals.specs.declared.Refusal.TheVariants.{State as NoState}
 use Rattle.protocol.specs.declared.state.State.{State}
 use Rattle.protocol.specs.State.{code, state_of, is_state}
 use Rattle.protocol.proofs.States.{byte_cases}
-use Rattle.letters.specs.declared.OldByte.TheVariants.{Unknown}
 use Rattle.letters.specs.declared.Way.{Way}
 use Rattle.letters.specs.declared.Way.TheVariants.{ToNew, ToOld}
-use Rattle.letters.specs.declared.Converted.TheVariants.{To, NoState}
 use Rattle.letters.specs.Letters.{letter_of, to_new, to_old, converted, is_in_through, byte_from}
 use Rattle.letters.specs.Claims.{EveryByte, Becomes, other_way, ByteReturns}
 
@@ -25,7 +24,7 @@ old_cases P p0 p1 p2 p3 p4 f (suc (suc (suc (suc zero)))) = p4
 old_cases P p0 p1 p2 p3 p4 f (suc (suc (suc (suc (suc b))))) = f (suc (suc (suc (suc (suc b))))) (omega arith)
 
 -- A byte above 4 has no letter.
-pub no_letter : (b : ℕ) → 4 < b → letter_of b ≡ Unknown
+pub no_letter : (b : ℕ) → 4 < b → letter_of b ≡ None
 unfolding letter_of
 no_letter b h =
     rw (
@@ -38,7 +37,7 @@ no_letter b h =
 
 -- What a byte becomes, becomes that byte again.
 abbrev Returns : Way → ℕ → Type 0
-Returns way b = Becomes (converted way b) → converted (other_way way) (byte_from (converted way b)) ≡ To b
+Returns way b = Becomes (converted way b) → converted (other_way way) (byte_from (converted way b)) ≡ Ok b
 
 new_returns : (b : ℕ) → Returns ToNew b
 unfolding converted letter_of code state_of
@@ -65,7 +64,7 @@ old_not_through =
     old_cases (λ b. is_in_through (converted ToNew b) ≡ false) refl refl refl refl refl (λ b h. rw (no_letter b h) refl)
 
 -- A byte that is no state becomes none.
-no_old_byte : (x : Option State) → is_state x ≡ false → to_old x ≡ NoState
+no_old_byte : (x : Option State) → is_state x ≡ false → to_old x ≡ Err NoState
 no_old_byte (Some s) h = absurd (false≢true (sym h))
 no_old_byte None h = refl
 

@@ -1,19 +1,18 @@
 -- What is proved of the bytes on either way. The proofs are in proofs/Letters.antt.
-use Rattle.std.specs.Prelude.{ℕ, ◌<◌, ◌≡◌, false, [], ◌∷◌, map}
+use Rattle.std.specs.Prelude.{ℕ, ◌<◌, ◌≡◌, false, [], ◌∷◌, map, Ok, Err}
+use Rattle.refusals.specs.declared.Refusal.TheVariants.{State as NoState, Through as InThrough}
 use Rattle.protocol.specs.State.{state_of, is_state}
 use Rattle.letters.specs.declared.Way.{Way}
 use Rattle.letters.specs.declared.Way.TheVariants.{ToNew, ToOld}
-use Rattle.letters.specs.declared.Converted.{Converted}
-use Rattle.letters.specs.declared.Converted.TheVariants.{To, NoState, InThrough}
-use Rattle.letters.specs.Letters.{converted, is_no_state, is_in_through, byte_from}
+use Rattle.letters.specs.Letters.{Converted, converted, is_no_state, is_in_through, byte_from}
 
 -- What becomes of each byte, in numbers: of an old byte, and of a new one.
 pub record EveryByte : Type 0 where
-  pub letters : map (converted ToNew) (0 ∷ 1 ∷ 2 ∷ 3 ∷ 4 ∷ []) ≡ To 0 ∷ To 9 ∷ To 10 ∷ To 11 ∷ To 12 ∷ []
-  pub above_4 : (b : ℕ) → 4 < b → converted ToNew b ≡ NoState
-  pub states : map (converted ToOld) (0 ∷ 9 ∷ 10 ∷ 11 ∷ 12 ∷ []) ≡ To 0 ∷ To 1 ∷ To 2 ∷ To 3 ∷ To 4 ∷ []
-  pub in_through : map (converted ToOld) (1 ∷ 2 ∷ []) ≡ InThrough ∷ InThrough ∷ []
-  pub no_state_lem : (b : ℕ) → is_state (state_of b) ≡ false → converted ToOld b ≡ NoState
+  pub letters : map (converted ToNew) (0 ∷ 1 ∷ 2 ∷ 3 ∷ 4 ∷ []) ≡ Ok 0 ∷ Ok 9 ∷ Ok 10 ∷ Ok 11 ∷ Ok 12 ∷ []
+  pub above_4 : (b : ℕ) → 4 < b → converted ToNew b ≡ Err NoState
+  pub states : map (converted ToOld) (0 ∷ 9 ∷ 10 ∷ 11 ∷ 12 ∷ []) ≡ Ok 0 ∷ Ok 1 ∷ Ok 2 ∷ Ok 3 ∷ Ok 4 ∷ []
+  pub in_through : map (converted ToOld) (1 ∷ 2 ∷ []) ≡ Err InThrough ∷ Err InThrough ∷ []
+  pub no_state_lem : (b : ℕ) → is_state (state_of b) ≡ false → converted ToOld b ≡ Err NoState
 
 -- It becomes a byte of the other edition.
 abbrev pub Becomes : Converted → Type 0
@@ -26,4 +25,4 @@ other_way ToOld = ToNew
 
 -- What a byte becomes, becomes that byte again.
 abbrev pub ByteReturns : Type 0
-ByteReturns = (way : Way) (b : ℕ) → Becomes (converted way b) → converted (other_way way) (byte_from (converted way b)) ≡ To b
+ByteReturns = (way : Way) (b : ℕ) → Becomes (converted way b) → converted (other_way way) (byte_from (converted way b)) ≡ Ok b

@@ -1,6 +1,9 @@
 -- The five letters of the old edition, their bytes, and what becomes of a state byte on the way to the new edition and on the way back.
-use Rattle.std.specs.Prelude.{Option, Some, None}
-use Rattle.std.specs.Prelude.{ℕ, Bool, true, false, cond, eqb}
+use Rattle.std.specs.Prelude.{ℕ, Bool, cond, eqb, Option, Some, None, Result, Ok, Err}
+use Rattle.std.specs.Result.{result_unwrap_or}
+use Rattle.refusals.specs.declared.Refusal.{Refusal}
+use Rattle.refusals.specs.declared.Refusal.TheVariants.{State as NoState, Through as InThrough}
+use Rattle.refusals.specs.Numbers.{refusal_in}
 use Rattle.protocol.specs.declared.state.Mode.{Mode}
 use Rattle.protocol.specs.declared.state.Mode.TheVariants.{Through, Back}
 use Rattle.protocol.specs.declared.state.State.{State}
@@ -8,12 +11,8 @@ use Rattle.protocol.specs.declared.state.State.TheVariants.{I, S, E, O, M}
 use Rattle.protocol.specs.State.{code, state_of}
 use Rattle.letters.specs.declared.Letter.{Letter}
 use Rattle.letters.specs.declared.Letter.TheVariants.{Invalid, Shared, Exclusive, Owned, Modified}
-use Rattle.letters.specs.declared.OldByte.{OldByte}
-use Rattle.letters.specs.declared.OldByte.TheVariants.{Known, Unknown}
 use Rattle.letters.specs.declared.Way.{Way}
 use Rattle.letters.specs.declared.Way.TheVariants.{ToNew, ToOld}
-use Rattle.letters.specs.declared.Converted.{Converted}
-use Rattle.letters.specs.declared.Converted.TheVariants.{To, NoState, InThrough}
 
 -- The byte of a letter.
 abbrev pub letter_code : Letter → ℕ
@@ -24,13 +23,13 @@ letter_code Owned = 3
 letter_code Modified = 4
 
 -- The letter of an old byte; a byte above 4 has none.
-unfoldable pub letter_of : ℕ → OldByte
+unfoldable pub letter_of : ℕ → Option Letter
 letter_of b =
-    cond (eqb b 0) (Known Invalid)
-    (cond (eqb b 1) (Known Shared)
-    (cond (eqb b 2) (Known Exclusive)
-    (cond (eqb b 3) (Known Owned)
-    (cond (eqb b 4) (Known Modified) Unknown))))
+    cond (eqb b 0) (Some Invalid)
+    (cond (eqb b 1) (Some Shared)
+    (cond (eqb b 2) (Some Exclusive)
+    (cond (eqb b 3) (Some Owned)
+    (cond (eqb b 4) (Some Modified) None))))
 
 -- The state that a letter is in the new edition: every held entry is in write back.
 abbrev pub in_back : Letter → State
@@ -40,28 +39,32 @@ in_back Exclusive = E Back
 in_back Owned = O
 in_back Modified = M
 
+-- What becomes of a byte: the byte of the other edition, or a refusal.
+abbrev pub Converted : Type 0
+Converted = Result ℕ Refusal
+
 -- What becomes of an old byte in the new edition.
-abbrev pub to_new : OldByte → Converted
-to_new (Known l) = To (code (in_back l))
-to_new Unknown = NoState
+abbrev pub to_new : Option Letter → Converted
+to_new (Some l) = Ok (code (in_back l))
+to_new None = Err NoState
 
 -- What becomes of a letter with a mode: the old edition has no write through.
 abbrev pub without_mode : Mode → Letter → Converted
-without_mode Through l = InThrough
-without_mode Back l = To (letter_code l)
+without_mode Through l = Err InThrough
+without_mode Back l = Ok (letter_code l)
 
 -- What becomes of a state in the old edition. O and M are write back.
 abbrev pub lettered : State → Converted
-lettered I = To (letter_code Invalid)
+lettered I = Ok (letter_code Invalid)
 lettered (S m) = without_mode m Shared
 lettered (E m) = without_mode m Exclusive
-lettered O = To (letter_code Owned)
-lettered M = To (letter_code Modified)
+lettered O = Ok (letter_code Owned)
+lettered M = Ok (letter_code Modified)
 
 -- What becomes of a new byte in the old edition.
 abbrev pub to_old : Option State → Converted
 to_old (Some s) = lettered s
-to_old None = NoState
+to_old None = Err NoState
 
 -- What becomes of a state byte, by the way that it goes.
 unfoldable pub converted : Way → ℕ → Converted
@@ -70,18 +73,12 @@ converted ToOld b = to_old (state_of b)
 
 -- It is no state of its own edition.
 abbrev pub is_no_state : Converted → Bool
-is_no_state (To b) = false
-is_no_state NoState = true
-is_no_state InThrough = false
+is_no_state c = eqb (refusal_in c) 10
 
 -- It is a state in write through, which the old edition lacks.
 abbrev pub is_in_through : Converted → Bool
-is_in_through (To b) = false
-is_in_through NoState = false
-is_in_through InThrough = true
+is_in_through c = eqb (refusal_in c) 11
 
 -- The byte that it becomes. Where there is none, this is 0, and nothing is written: the conversion is refused.
 abbrev pub byte_from : Converted → ℕ
-byte_from (To b) = b
-byte_from NoState = 0
-byte_from InThrough = 0
+byte_from c = result_unwrap_or c 0

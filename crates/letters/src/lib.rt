@@ -1,14 +1,17 @@
 // The five letters of the old edition, their bytes, and what becomes of a state byte on the way to the new edition and on the way back.
 #![tactic(auto)]
 
-ghost use Rattle.std.specs.Prelude.{◌≡◌};
-ghost use Rattle.letters.specs.Letters.{letter_of, letter_code, in_back, to_new, without_mode, lettered, to_old, converted, is_no_state, is_in_through, byte_from};
+ghost use Rattle.std.specs.Prelude.{◌≡◌, Ok, Err};
+ghost use Rattle.std.specs.Option.{ok_or};
+ghost use Rattle.std.specs.Result.{MatchResult};
+ghost use Rattle.refusals.specs.declared.Refusal.TheVariants.{State as NoState};
+ghost use Rattle.letters.specs.Letters.{letter_of, letter_code, in_back, lettered, converted};
 
-use protocol::state;
-use protocol::state::{Byte, Mode, State};
+use protocol::state::{Mode, State};
+use refusals::Refusal;
 
 // The state of an entry in the old edition, which has no mode.
-#[derive(Clone, Copy)]
+#[derive(Clone, Copy, Debug, PartialEq, Eq)]
 pub enum Letter {
     Invalid,
     Shared,
@@ -17,149 +20,94 @@ pub enum Letter {
     Modified,
 }
 
-// A byte of an old state table: one of the five letters, or none.
-#[derive(Clone, Copy)]
-pub enum OldByte {
-    Known(Letter),
-    Unknown,
-}
-
 // From the old edition to the new one, or from the new one back to the old.
-#[derive(Clone, Copy)]
+#[derive(Clone, Copy, Debug, PartialEq, Eq)]
 pub enum Way {
     ToNew,
     ToOld,
 }
 
-// What becomes of a state byte: the byte of the other edition; or it is no state of its own edition; or it is a state in write through,
-// which the old edition does not have.
-#[derive(Clone, Copy)]
-pub enum Converted {
-    To(u8),
-    NoState,
-    InThrough,
-}
+// The letter of an old byte: the one place that tells the old bytes apart.
+impl TryFrom<u8> for Letter {
+    type Error = Refusal;
 
-// The one place that tells the old bytes apart.
-#[tactic(auto, unfolding(crate::specs::Letters::letter_of))]
-fn byte_letter(b: u8) -> OldByte
-    ensures { result ≡ letter_of b }
-{
-    match b {
-        0 => OldByte::Known(Letter::Invalid),
-        1 => OldByte::Known(Letter::Shared),
-        2 => OldByte::Known(Letter::Exclusive),
-        3 => OldByte::Known(Letter::Owned),
-        4 => OldByte::Known(Letter::Modified),
-        5..=255 => OldByte::Unknown,
+    ghost try_from_gives = { λ b r. r ≡ ok_or (letter_of b) NoState };
+
+    #[tactic(auto, unfolding(crate::specs::Letters::letter_of))]
+    fn try_from(b: u8) -> Result<Letter, Refusal> {
+        match b {
+            0 => Ok(Letter::Invalid),
+            1 => Ok(Letter::Shared),
+            2 => Ok(Letter::Exclusive),
+            3 => Ok(Letter::Owned),
+            4 => Ok(Letter::Modified),
+            5..=255 => Err(Refusal::State),
+        }
     }
 }
 
 // The letter's byte.
-fn letter_byte(l: Letter) -> u8
-    ensures { result ≡ letter_code l }
-{
-    match l {
-        Letter::Invalid => 0,
-        Letter::Shared => 1,
-        Letter::Exclusive => 2,
-        Letter::Owned => 3,
-        Letter::Modified => 4,
+impl From<Letter> for u8 {
+    ghost from_gives = { λ l b. b ≡ letter_code l };
+
+    fn from(l: Letter) -> u8 {
+        match l {
+            Letter::Invalid => 0,
+            Letter::Shared => 1,
+            Letter::Exclusive => 2,
+            Letter::Owned => 3,
+            Letter::Modified => 4,
+        }
     }
 }
 
 // The state that a letter is in the new edition: what is held is in write back.
-fn in_back(l: Letter) -> State
-    ensures { result ≡ in_back l }
-{
-    match l {
-        Letter::Invalid => State::I,
-        Letter::Shared => State::S(Mode::Back),
-        Letter::Exclusive => State::E(Mode::Back),
-        Letter::Owned => State::O,
-        Letter::Modified => State::M,
+impl From<Letter> for State {
+    ghost from_gives = { λ l s. s ≡ in_back l };
+
+    fn from(l: Letter) -> State {
+        match l {
+            Letter::Invalid => State::I,
+            Letter::Shared => State::S(Mode::Back),
+            Letter::Exclusive => State::E(Mode::Back),
+            Letter::Owned => State::O,
+            Letter::Modified => State::M,
+        }
     }
 }
 
-fn to_new(b: OldByte) -> Converted
-    ensures { result ≡ to_new b }
-{
-    match b {
-        OldByte::Known(l) => Converted::To(state::state_byte(in_back(l))),
-        OldByte::Unknown => Converted::NoState,
+// The letter of a state: the old edition has no write through.
+impl TryFrom<State> for Letter {
+    type Error = Refusal;
+
+    ghost try_from_gives = { λ s r. MatchResult r (λ l. lettered s ≡ Ok (letter_code l)) (λ e. lettered s ≡ Err e) };
+
+    fn try_from(s: State) -> Result<Letter, Refusal> {
+        match s {
+            State::I => Ok(Letter::Invalid),
+            State::S(Mode::Back) => Ok(Letter::Shared),
+            State::E(Mode::Back) => Ok(Letter::Exclusive),
+            State::S(Mode::Through) | State::E(Mode::Through) => Err(Refusal::Through),
+            State::O => Ok(Letter::Owned),
+            State::M => Ok(Letter::Modified),
+        }
     }
 }
 
-// The old byte of a letter with a mode: the old edition has no write through.
-fn without_mode(m: Mode, l: Letter) -> Converted
-    ensures { result ≡ without_mode m l }
-{
-    match m {
-        Mode::Through => Converted::InThrough,
-        Mode::Back => Converted::To(letter_byte(l)),
-    }
-}
-
-// The old byte of a state.
-fn lettered(s: State) -> Converted
-    ensures { result ≡ lettered s }
-{
-    match s {
-        State::I => Converted::To(letter_byte(Letter::Invalid)),
-        State::S(m) => without_mode(m, Letter::Shared),
-        State::E(m) => without_mode(m, Letter::Exclusive),
-        State::O => Converted::To(letter_byte(Letter::Owned)),
-        State::M => Converted::To(letter_byte(Letter::Modified)),
-    }
-}
-
-fn to_old(b: Byte) -> Converted
-    ensures { result ≡ to_old b }
-{
-    match b {
-        Byte::Of(s) => lettered(s),
-        Byte::No => Converted::NoState,
-    }
-}
-
-// What becomes of a state byte, by the way that it goes.
+// What becomes of a state byte, by the way that it goes: the byte of the other edition. It is refused where it is no state of its own edition,
+// or a state in write through, which the old edition does not have.
 #[tactic(auto, unfolding(crate::specs::Letters::converted))]
-pub fn convert_byte(way: Way, b: u8) -> Converted
+pub fn convert_byte(way: Way, b: u8) -> Result<u8, Refusal>
     ensures { result ≡ converted way b }
 {
     match way {
-        Way::ToNew => to_new(byte_letter(b)),
-        Way::ToOld => to_old(state::byte_state(b)),
-    }
-}
-
-pub fn is_no_state(c: Converted) -> bool
-    ensures { result ≡ is_no_state c }
-{
-    match c {
-        Converted::To(_) => false,
-        Converted::NoState => true,
-        Converted::InThrough => false,
-    }
-}
-
-pub fn is_in_through(c: Converted) -> bool
-    ensures { result ≡ is_in_through c }
-{
-    match c {
-        Converted::To(_) => false,
-        Converted::NoState => false,
-        Converted::InThrough => true,
-    }
-}
-
-// The byte that it becomes; 0 where there is none, and nothing is written then: the conversion is refused.
-pub fn byte_from(c: Converted) -> u8
-    ensures { result ≡ byte_from c }
-{
-    match c {
-        Converted::To(b) => b,
-        Converted::NoState => 0,
-        Converted::InThrough => 0,
+        Way::ToNew => {
+            let letter = Letter::try_from(b)?;
+            Ok(u8::from(State::from(letter)))
+        }
+        Way::ToOld => {
+            let state = State::try_from(b).map_err(|_| Refusal::State)?;
+            Ok(u8::from(Letter::try_from(state)?))
+        }
     }
 }
