@@ -6,10 +6,10 @@ use Rattle.host.proofs.Host.{of_bytes, audit-fits, audit-accepted, audit-refused
 use Rattle.moesi.proofs.moesi_audit.Goals as goal
 
 pub returns-then-out : goal.returns-then-out
-returns-then-out c = (search of_bytes, search audit-refused)
+returns-then-out c = (search of_bytes, rw (← c.new-shape.ensures) (search audit-refused))
 
 pub returns-else-out : goal.returns-else-out
-returns-else-out c = (search of_bytes, search audit_left)
+returns-else-out c = (search of_bytes, rw (← c.new-shape.ensures) (search audit_left))
 
 pub audit_tables-requires : goal.audit_tables-requires
 audit_tables-requires c = search audit-fits
@@ -20,4 +20,4 @@ bounds-verdict-0-2 c =
     omega (arith, e)
 
 pub returns : goal.returns
-returns c = (search of_bytes, search audit-accepted)
+returns c = (search of_bytes, rw (← c.new-shape.ensures) (search audit-accepted))

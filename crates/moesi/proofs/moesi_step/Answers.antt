@@ -6,7 +6,7 @@ use Rattle.host.proofs.Host.{of_bytes, fitting, step-accepted, step-refused}
 use Rattle.moesi.proofs.moesi_step.Goals as goal
 
 pub returns-then-n-ne0 : goal.returns-then-n-ne0
-returns-then-n-ne0 c = (search of_bytes, search step-refused)
+returns-then-n-ne0 c = (search of_bytes, rw (← c.new-shape.ensures) (search step-refused))
 
 pub step_order-a-requires : goal.step_order-a-requires
 step_order-a-requires c = fitting _ _ _ (sym c.lent_refusal-n.ensures ∙ c.if-n-ne0.false)
@@ -18,7 +18,7 @@ pub returns : goal.returns
 returns c =
     let s = c.step_order-a in (
       search of_bytes,
-      step-accepted _ _ _ _ c.lent_refusal-n.ensures c.if-n-ne0.false s.ensures s.auto.memory s.auto.tags s.auto.states s.auto.words
+      rw (← c.new-shape.ensures) (step-accepted _ _ _ _ c.lent_refusal-n.ensures c.if-n-ne0.false s.ensures s.auto.memory s.auto.tags s.auto.states s.auto.words
           (λ j. omega (arith, c.type_inv.memory j)) (λ j. omega (arith, c.type_inv.tags j)) (λ j. omega (arith, c.type_inv.data j))
-          c.put_answer.ensures,
+          c.put_answer.ensures),
     )
