@@ -11,15 +11,15 @@ use lib.Dec.{eqb}
 use lib.ListN.{get_or, set, length, take, drop, take-append-drop, length-drop}
 use lib.Seq.{get_or-drop, drop-length, drop-set-add, take-set-le, sets, set-get_or}
 use lib.Count.{count_trailing_zeros}
-use borrow.Author.Tests.{not-true, eqb-true}
+use borrow.Author.Tests.{not-true, eqb-true, not-false}
 use borrow.Rule.Slice.PartMut.{mid_of, post_of, put_mid, put_same, Post-is, set_mid_at}
 use borrow.Author.Rules.{part_to_end}
 use Rattle.words.proofs.Bools.{Is, by_bool, not_is}
 use Rattle.protocol.specs.declared.rules.Bus.{Bus}
-use Rattle.protocol.specs.declared.rules.Bus.TheVariants.{Quiet}
+use Rattle.protocol.specs.declared.rules.Bus.TheVariants.{Quiet, Share, Update, Invalidate, ShareOwned}
 use Rattle.protocol.specs.State.{state_of, or_invalid}
-use Rattle.protocol.specs.Rules.{updates}
-use Rattle.protocol.specs.Coded.{bus_at, nibble_at, snoop_row}
+use Rattle.protocol.specs.Rules.{updates, is_quiet}
+use Rattle.protocol.specs.Coded.{nibble_at, snoop_row}
 use Rattle.protocol.proofs.States.{code-state_of}
 use Rattle.protocol.proofs.Rows.{snooped_is}
 use Rattle.protocol.proofs.Kept.{quiet_same, quiet_keeps}
@@ -147,16 +147,16 @@ module _ (s : Shape) (pos : zero < s.sets) (t : Model) (a : ℕ) (asked : ℕ �
       (sym (words_kept s pos t a asked Quiet w quiet_keeps)))
 
 -- The ports of the mask, one after the other: the ports below `port` are passed, rest has those from it on, and k is the number of its entry.
-pub record Telling (l : Line) (bus w asked : ℕ) (g₀ h₀ d₀ g h d : List ℕ) (rest k : ℕ) : Type 0 where
+pub record Telling (l : Line) (bus : Bus) (w asked : ℕ) (g₀ h₀ d₀ g h d : List ℕ) (rest k : ℕ) : Type 0 where
   pub port : ℕ
   pub at : Running l port k
   pub filled : Filled l.shape g h d
-  pub now : tables_in l.shape g h d ≡ answered l.shape (tables_in l.shape g₀ h₀ d₀) l.number (in_mask asked) (bus_at bus) w port
+  pub now : tables_in l.shape g h d ≡ answered l.shape (tables_in l.shape g₀ h₀ d₀) l.number (in_mask asked) bus w port
   pub count : ℕ
   pub all : port + count ≡ l.shape.ports
   pub mask : rest ≡ ports_from (in_mask asked) port count
 
-module _ {l : Line} (v : Placed l) {g₀ h₀ d₀ : List ℕ} (bus w asked : ℕ) (f₀ : Filled l.shape g₀ h₀ d₀)
+module _ {l : Line} (v : Placed l) {g₀ h₀ d₀ : List ℕ} (bus : Bus) (w asked : ℕ) (f₀ : Filled l.shape g₀ h₀ d₀)
     (fine : AllStates l.shape l.number h₀) (holders : OfHolders l.shape (tables_in l.shape g₀ h₀ d₀) l.number asked) where
   abbrev s : Shape
   s = l.shape
@@ -171,7 +171,7 @@ module _ {l : Line} (v : Placed l) {g₀ h₀ d₀ : List ℕ} (bus w asked : �
   test p = in_mask asked p
 
   abbrev after : ℕ → Model
-  after p = answered s t₀ a (in_mask asked) (bus_at bus) w p
+  after p = answered s t₀ a (in_mask asked) bus w p
 
   pub telling_none : Telling l bus w asked g₀ h₀ d₀ g₀ h₀ d₀ asked l.place.index
   unfolding answered put_below
@@ -191,7 +191,7 @@ module _ {l : Line} (v : Placed l) {g₀ h₀ d₀ : List ℕ} (bus w asked : �
 
     pub telling_done : rest ≡ 0 → tables_in s g h d ≡ after s.ports
     telling_done z =
-        u.now ∙ sym (skip s (some v) t₀ a (in_mask asked) (bus_at bus) w p u.count
+        u.now ∙ sym (skip s (some v) t₀ a (in_mask asked) bus w p u.count
         (λ r k. not_is (test (p + r)) (λ y. absurd (omega (arith, z, u.mask, mask_some test p u.count r k y)))))
         ∙ ap after u.all
 
@@ -213,7 +213,7 @@ module _ {l : Line} (v : Placed l) {g₀ h₀ d₀ : List ℕ} (bus w asked : �
       in_k = entry_lt s (some v) a (p + z) next_below
 
       reached : tables_in s g h d ≡ after (p + z)
-      reached = u.now ∙ sym (skip s (some v) t₀ a (in_mask asked) (bus_at bus) w p z first.lower)
+      reached = u.now ∙ sym (skip s (some v) t₀ a (in_mask asked) bus w p z first.lower)
 
       held : Is (holds s t₀ a (p + z))
       held = holders.hold (p + z) next_below first.passes
@@ -222,25 +222,25 @@ module _ {l : Line} (v : Placed l) {g₀ h₀ d₀ : List ℕ} (bus w asked : �
       unfolding answered tables_in
       byte_there =
           ap (λ (t : Model). get_or t.states (entry_of s a (p + z)) 0) reached
-          ∙ still s (some v) t₀ a (in_mask asked) (bus_at bus) w (p + z) (byte_answered s t₀ a (in_mask asked) (bus_at bus)) h₀
+          ∙ still s (some v) t₀ a (in_mask asked) bus w (p + z) (byte_answered s t₀ a (in_mask asked) bus) h₀
 
       word_there : get_or (numbers 8 (entries s) d) (entry_of s a (p + z)) 0 ≡ get_or (numbers 8 (entries s) d₀) (entry_of s a (p + z)) 0
       unfolding answered tables_in
       word_there =
           ap (λ (t : Model). get_or t.words (entry_of s a (p + z)) 0) reached
-          ∙ still s (some v) t₀ a (in_mask asked) (bus_at bus) w (p + z) (word_answered s t₀ a (in_mask asked) (bus_at bus) w) (numbers 8 (entries s) d₀)
+          ∙ still s (some v) t₀ a (in_mask asked) bus w (p + z) (word_answered s t₀ a (in_mask asked) bus w) (numbers 8 (entries s) d₀)
 
       state_there : seen s t₀ a (p + z) ≡ or_invalid (state_of (get_or h₀ (entry_of s a (p + z)) 0))
       unfolding tables_in
       state_there = seen_here s t₀ a (p + z) (seen_tag s t₀ a (p + z) held)
 
       -- It answers.
-      byte_is : nibble_at (snoop_row bus) (get_or h (entry_of s a (p + z)) 0 % 16) ≡ byte_answered s t₀ a (in_mask asked) (bus_at bus) (p + z)
+      byte_is : nibble_at (snoop_row bus) (get_or h (entry_of s a (p + z)) 0 % 16) ≡ byte_answered s t₀ a (in_mask asked) bus (p + z)
       unfolding byte_answered
       byte_is = rw (byte_there, first.passes, state_there) (snooped_is bus (get_or h₀ (entry_of s a (p + z)) 0) (fine (p + z) next_below) refl refl)
 
-      word_is : cond (updates (bus_at bus)) w (get_or (numbers 8 (entries s) d) (entry_of s a (p + z)) 0)
-          ≡ word_answered s t₀ a (in_mask asked) (bus_at bus) w (p + z)
+      word_is : cond (updates bus) w (get_or (numbers 8 (entries s) d) (entry_of s a (p + z)) 0)
+          ≡ word_answered s t₀ a (in_mask asked) bus w (p + z)
       unfolding word_answered word_at tables_in
       word_is = rw (word_there, first.passes)
 
@@ -277,9 +277,9 @@ module _ {l : Line} (v : Placed l) {g₀ h₀ d₀ : List ℕ} (bus w asked : �
             rw (eg, eh, ed, ec, at_k)
             (model_eq refl (ap (λ (t : Model). t.tags) reached)
             (ap (set h (entry_of s a (p + z))) byte_is ∙ ap (λ (t : Model). set t.states (entry_of s a (p + z))
-            (byte_answered s t₀ a (in_mask asked) (bus_at bus) (p + z))) reached)
-            (words_put fits (updates (bus_at bus)) ∙ ap (set (numbers 8 (entries s) d) (entry_of s a (p + z))) word_is
-            ∙ ap (λ (t : Model). set t.words (entry_of s a (p + z)) (word_answered s t₀ a (in_mask asked) (bus_at bus) w (p + z))) reached))
+            (byte_answered s t₀ a (in_mask asked) bus (p + z))) reached)
+            (words_put fits (updates bus) ∙ ap (set (numbers 8 (entries s) d) (entry_of s a (p + z))) word_is
+            ∙ ap (λ (t : Model). set t.words (entry_of s a (p + z)) (word_answered s t₀ a (in_mask asked) bus w (p + z))) reached))
 
         pub telling_more : w < 2 ^ 64 → {g' h' d' : List ℕ} → length g' ≡ length g → length h' ≡ length h → length d' ≡ length d
             → {c : Command} → c ≡ command_of bus
@@ -304,12 +304,14 @@ module _ {l : Line} (v : Placed l) {g₀ h₀ d₀ : List ℕ} (bus w asked : �
   unfolding tables_in
   unpacked = fine
 
-  quiet : (b : Bool) → eqb bus 0 ≡ b → not b ≡ false → bus_at bus ≡ Quiet
-  unfolding bus_at
-  quiet true y _ = rw y
-  quiet false _ z = absurd (false≢true (sym z))
-
-  pub unasked : (not (eqb asked 0) && not (eqb bus 0)) ≡ false → t₀ ≡ after s.ports
-  unasked h =
+  pub unasked : {q : Bool} → q ≡ is_quiet bus → (not (eqb asked 0) && not q) ≡ false → t₀ ≡ after s.ports
+  unasked {q} e h =
       by_bool (eqb asked 0) (λ y. telling_done telling_none (eqb-true asked 0 y))
-      (λ y. quiet_answered s (some v) t₀ a (in_mask asked) holders.hold w unpacked (quiet (eqb bus 0) refl (rw y at h)))
+      (λ y. quiet_answered s (some v) t₀ a (in_mask asked) holders.hold w unpacked (quiet bus (sym e ∙ not-false q (rw y at h))))
+    where
+      quiet : (b : Bus) → is_quiet b ≡ true → b ≡ Quiet
+      quiet Quiet y = refl
+      quiet (Share m) y = absurd (false≢true y)
+      quiet (Update m) y = absurd (false≢true y)
+      quiet Invalidate y = absurd (false≢true y)
+      quiet ShareOwned y = absurd (false≢true y)

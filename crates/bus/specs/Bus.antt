@@ -4,16 +4,16 @@ use Rattle.std.proofs.lemmas.List.Edits.{sets}
 use Rattle.endian.specs.Little.{bytes_of}
 use Rattle.protocol.specs.declared.rules.Bus.{Bus}
 use Rattle.protocol.specs.Rules.{updates}
-use Rattle.protocol.specs.Coded.{bus_at, nibble_at, snoop_row}
+use Rattle.protocol.specs.Coded.{nibble_at, snoop_row}
 use Rattle.shape.specs.declared.Shape.{Shape}
 use Rattle.shape.specs.Shape.{entry_of}
 use Rattle.model.specs.Tables.{Model, model}
 use Rattle.model.specs.Step.{put_below, byte_answered, word_answered}
 use Rattle.bus.specs.declared.Command.{Command}
 
--- The command of a number: its row of the snoop table, and whether it hands the new word on.
-unfoldable pub command_of : ℕ → Command
-command_of n = record { row = snoop_row n; hands = updates (bus_at n) }
+-- A command as the ports hear it: its row of the snoop table, and whether it hands the new word on.
+unfoldable pub command_of : Bus → Command
+command_of b = record { row = snoop_row b; hands = updates b }
 
 -- A holder's answer to a command, in bytes: entry k's.
 unfoldable pub states_answered : Command → ℕ → List ℕ → List ℕ

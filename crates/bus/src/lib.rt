@@ -2,7 +2,6 @@
 #![tactic(auto)]
 
 ghost use Rattle.std.specs.Prelude.{◌≡◌, ◌+◌, ◌*◌, ◌^◌, ◌<◌};
-ghost use Rattle.protocol.specs.Coded.{bus_at};
 ghost use Rattle.ports.specs.Bytes.{tables_in, Filled};
 ghost use Rattle.ports.specs.Entry.{Room};
 ghost use Rattle.ports.specs.Line.{Placed};
@@ -12,6 +11,7 @@ ghost use Rattle.bus.specs.Bus.{command_of, states_answered, words_answered, ans
 use ports::line::Line;
 use ports::{entry, mask};
 use protocol::rules;
+use protocol::rules::Bus;
 
 // A bus command as the ports hear it: its row of the snoop table, and whether it hands the new word to the holders.
 #[derive(Clone, Copy)]
@@ -21,13 +21,12 @@ pub struct Command {
 }
 
 #[tactic(auto, unfolding(crate::specs::Bus::command_of))]
-fn command_of(bus: u8) -> Command
-    requires { bus < 7 }
+fn command_of(bus: Bus) -> Command
     ensures { result ≡ command_of bus }
 {
     Command {
         row: rules::snoop_row(bus),
-        hands: rules::hands_word(bus),
+        hands: bus.hands_word(),
     }
 }
 
@@ -86,7 +85,7 @@ fn passed(k: usize, sets: usize, ports: usize) -> usize
     at
 }
 
-// Every port of the mask answers command number bus. The number of the port's entry runs from the index on: sets more for each port, asked or
+// Every port of the mask answers a bus command. The number of the port's entry runs from the index on: sets more for each port, asked or
 // passed over. The port's part of the tables starts the index before it.
 fn broadcast(
     tags: &mut [u8],
@@ -94,17 +93,16 @@ fn broadcast(
     words: &mut [u8],
     line: Line,
     asked: u64,
-    bus: u8,
+    bus: Bus,
     w: u64,
 )
     requires filled { Filled line.shape tags.old states.old words.old }
     requires placed { Placed line }
     requires all_states { AllStates line.shape line.number states.old }
     requires of_holders { OfHolders line.shape (tables_in line.shape tags.old states.old words.old) line.number asked }
-    requires command { bus < 7 }
     ensures { tables_in line.shape tags.new states.new words.new
         ≡ answered line.shape (tables_in line.shape tags.old states.old words.old) line.number
-        (in_mask asked) (bus_at bus) w line.shape.ports }
+        (in_mask asked) bus w line.shape.ports }
 {
     let c = command_of(bus);
     let sets = line.shape.sets;
@@ -127,19 +125,18 @@ pub fn ask(
     words: &mut [u8],
     line: Line,
     asked: u64,
-    bus: u8,
+    bus: Bus,
     w: u64,
 )
     requires filled { Filled line.shape tags.old states.old words.old }
     requires placed { Placed line }
     requires all_states { AllStates line.shape line.number states.old }
     requires of_holders { OfHolders line.shape (tables_in line.shape tags.old states.old words.old) line.number asked }
-    requires command { bus < 7 }
     ensures { tables_in line.shape tags.new states.new words.new
         ≡ answered line.shape (tables_in line.shape tags.old states.old words.old) line.number
-        (in_mask asked) (bus_at bus) w line.shape.ports }
+        (in_mask asked) bus w line.shape.ports }
 {
-    if (asked != 0) & (bus != 0) {
+    if (asked != 0) & !bus.is_quiet() {
         broadcast(tags, states, words, line, asked, bus, w);
     }
 }

@@ -12,8 +12,6 @@ use Rattle.words.specs.Access.{effect_at}
 use Rattle.words.proofs.Bools.{and_r}
 use Rattle.protocol.specs.declared.state.Mode.{Mode}
 use Rattle.protocol.specs.declared.rules.Rule.{Rule}
-use Rattle.protocol.specs.Coded.{bus_at}
-use Rattle.protocol.proofs.Rows.{bus_below, bus_at_lem}
 use Rattle.shape.specs.declared.Shape.{Shape}
 use Rattle.shape.specs.Shape.{entry_number, entry_of}
 use Rattle.model.specs.Tables.{Model, seen, word_at, holds, column_sound}
@@ -44,14 +42,13 @@ carried_accessed s pos t i a port acc m =
     rw (
       store_then r.stores (record { line = a; word = e.word }) refl _,
       store_then (evicts_owner s t i a) (record { line = victim s t i a; word = word_at s t a i }) refl _,
-      bus_at_lem r.bus,
       put_ruled s pos t i a port r e.word (in_mask (ports_from (other s t i a) 0 s.ports))
           (λ p h d. in_mask_lem (other s t i a) s.ports refl p h ∙ rw (ne_eqb p i d)) refl,
     )
 
 -- The calls that carry a decision out, together.
 pub carry_done : {l : Line} → Placed l → (b b' : Bytes) (i : ℕ) (d : Decision) {u : Model}
-    → u ≡ answered l.shape (tables_in l.shape b.tags b.states b.words) l.number (in_mask d.others) (bus_at d.bus) d.entry.word
+    → u ≡ answered l.shape (tables_in l.shape b.tags b.states b.words) l.number (in_mask d.others) d.bus d.entry.word
     l.shape.ports
     → {k : ℕ} → k ≡ entry_number l.shape i l.place.index
     → tables_in l.shape b'.tags b'.states b'.words ≡ put_at u k d.entry
@@ -62,7 +59,7 @@ unfolding carried answered byte_answered word_answered put_at word_at seen table
 carry_done {l} v b b' i d ea ek ep e₁ e₂ =
     let s = l.shape in
     let a = l.number in
-    let now : Model = answered s (tables_in s b.tags b.states b.words) a (in_mask d.others) (bus_at d.bus) d.entry.word s.ports in
+    let now : Model = answered s (tables_in s b.tags b.states b.words) a (in_mask d.others) d.bus d.entry.word s.ports in
     let tables : tables_in s b'.tags b'.states b'.words ≡ put_at now (entry_of s a i) d.entry = ep ∙ rw (ea, ek, number_is v i) in
     let memory : numbers 8 s.lines b'.memory
     ≡ store_of d.stored (store_of d.evicted (numbers 8 s.lines b.memory)) = e₂ ∙ rw e₁ in
@@ -78,7 +75,6 @@ module _ {l : Line} (v : Placed l) (b : Bytes) (i : ℕ) (port : i < l.shape.por
       let t = model_in l.shape b in
       rw e (record {
         mask = of_holders l.shape _ l.number (other l.shape t i l.number) (λ p. and_r (not (eqb p i)) _) refl;
-        command = bus_below _;
         home = line_then _ _ _ (λ h. home_there l.shape t i l.number port (sym (sound_column l.shape b l.number) ∙ u)
             (and_r (not (holds l.shape t l.number i)) _ h));
         line = line_then _ _ _ (λ h. v.below);

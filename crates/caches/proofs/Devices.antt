@@ -1,12 +1,11 @@
 -- A device write as the code makes it is the model's. Assumes nothing.
 use Prim.Native.Nat.{ℕ, ◌+◌}
-use mathlib.Core.Path.{◌≡◌, refl, ap, ◌∙◌}
+use mathlib.Core.Path.{◌≡◌, refl, ◌∙◌}
 use mathlib.Core.Bool.{true, false, not}
 use lib.Dec.{eqb}
 use Rattle.endian.specs.Little.{numbers}
 use Rattle.words.specs.Bools.{bit}
 use Rattle.words.specs.Word.{merge}
-use Rattle.protocol.specs.declared.rules.Bus.{Bus}
 use Rattle.protocol.specs.declared.rules.Bus.TheVariants.{Invalidate}
 use Rattle.protocol.specs.Rules.{updates}
 use Rattle.shape.specs.declared.Shape.{Shape}
@@ -52,12 +51,12 @@ module _ {l : Line} (v : Placed l) (b : Bytes) {said : Masks}
       (put_ext (entry_of s a) (entry_inj s (some v) a) _ _ s.ports t'.states (λ p h. rw (in_mask_lem (holds s t' a) s.ports (masks_holders s t' a es) p h)))
       (words_kept s (some v) t' a (in_mask said.holders) Invalidate w refl)
 
-  pub written_done : (b' : Bytes) (mask x : ℕ) {u w : ℕ} {c : Bus} → c ≡ Invalidate → u ≡ word_supplied s (model_in s b) a → w ≡ merge mask u x
-      → tables_in s b'.tags b'.states b'.words ≡ answered s t' a (in_mask said.holders) c w s.ports
+  pub written_done : (b' : Bytes) (mask x : ℕ) {u w : ℕ} → u ≡ word_supplied s (model_in s b) a → w ≡ merge mask u x
+      → tables_in s b'.tags b'.states b'.words ≡ answered s t' a (in_mask said.holders) Invalidate w s.ports
       → numbers 8 s.lines b'.memory ≡ store true a w (numbers 8 s.lines b.memory) → {n : Answer}
       → n ≡ accepted 0 (bit false) (bit (not (not (eqb said.owners 0)))) (bit false + bit true)
       → result n (model_in s b') ≡ device_written s (model_in s b) a mask x
   unfolding device_written byte_answered dirty seen tables_in model_in
-  written_done b' mask x {u} {w} ec eu ew et em en =
-      let now = et ∙ ap (λ (k : Bus). answered s t' a (in_mask said.holders) k w s.ports) ec ∙ holders_gone w in
+  written_done b' mask x {u} {w} eu ew et em en =
+      let now = et ∙ holders_gone w in
       rw (en, masks_dirty s t' a es, held_together s b' em now, ew, eu)

@@ -13,7 +13,7 @@ use model::answer::Answer;
 use ports::entry;
 use ports::line::Line;
 use ports::survey::Masks;
-use protocol::rules;
+use protocol::rules::Bus;
 use words::word;
 
 // A device read of line a.
@@ -48,8 +48,7 @@ pub fn device_write(
     let supplied = supply::supplied_word(memory, tags, states, words, line, said.owners);
     let merge = word::merged(mask, supplied, x);
     let w = merge.word;
-    let command = rules::invalidate();
-    bus::ask(tags, states, words, line, said.holders, command, w);
+    bus::ask(tags, states, words, line, said.holders, Bus::Invalidate, w);
     let stored = Store {
         line: line.number,
         word: w,

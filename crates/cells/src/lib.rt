@@ -2,8 +2,8 @@
 #![tactic(auto, unfolding(rows::specs::Cells::row_of, rows::specs::Cells::reads_in, rows::specs::Cells::writes_in, rows::specs::Cases::audited, protocol::specs::Rules::flush_rule))]
 
 ghost use Rattle.std.specs.Prelude.{◌≡◌, ◌↔◌, true, IsSome, IfSome};
-ghost use Rattle.protocol.specs.Rules.{rule, snooped, updates};
-ghost use Rattle.protocol.specs.Coded.{bus_number, bus_at, mode_at};
+ghost use Rattle.protocol.specs.Rules.{rule, snooped};
+ghost use Rattle.protocol.specs.Coded.{mode_at};
 ghost use Rattle.rows.specs.Cases.{outcome_in_turn, state_in_turn, arises, held_through, printed, own_audited, snoop_audited, cases, own_at, case_at};
 ghost use Rattle.rows.specs.Cells.{source_of, blank_row, row_of};
 ghost use Rattle.rows.specs.Numbers.{table_number, source_number, cells};
@@ -53,36 +53,6 @@ fn state_at(n: u8) -> State
     }
 }
 
-#[tactic(auto, unfolding(protocol::specs::Coded::bus_at))]
-fn bus_at(n: u8) -> Bus
-    ensures { result ≡ bus_at n }
-{
-    match n {
-        0 => Bus::Quiet,
-        1 => Bus::Invalidate,
-        2 => Bus::ShareOwned,
-        3 => Bus::Share(Mode::Through),
-        4 => Bus::Share(Mode::Back),
-        5 => Bus::Update(Mode::Through),
-        _ => Bus::Update(Mode::Back),
-    }
-}
-
-#[tactic(auto, unfolding(protocol::specs::Coded::bus_number))]
-fn bus_number(bus: Bus) -> u8
-    ensures { result ≡ bus_number bus }
-{
-    match bus {
-        Bus::Quiet => 0,
-        Bus::Invalidate => 1,
-        Bus::ShareOwned => 2,
-        Bus::Share(Mode::Through) => 3,
-        Bus::Share(Mode::Back) => 4,
-        Bus::Update(Mode::Through) => 5,
-        Bus::Update(Mode::Back) => 6,
-    }
-}
-
 // The case of an access at a number below 168: its outcome, mode, shared, dirty and state are digits of the number.
 fn own_at(k: u8) -> Case
     ensures { result ≡ own_at k }
@@ -105,7 +75,7 @@ pub fn case_at(k: u8) -> Case
     match k {
         0..168 => own_at(k),
         168..210 => Case::Snoop {
-            hears: bus_at((k - 168) / 6),
+            hears: rules::bus_at((k - 168) / 6),
             state: state_at((k - 168) % 6 + 1),
         },
         210..217 => Case::TakeOver {
@@ -196,7 +166,7 @@ fn own_rule(k: Outcome, m: Mode, shared: bool, dirty: bool, s: State) -> Rule
     let r = rules::own_rule(k, m, shared, dirty, u8::from(s));
     Rule {
         own: State::try_from(r.own).unwrap(),
-        bus: bus_at(r.bus),
+        bus: r.bus,
         stores: r.stores,
     }
 }
@@ -206,15 +176,7 @@ fn own_rule(k: Outcome, m: Mode, shared: bool, dirty: bool, s: State) -> Rule
 fn snooped(bus: Bus, s: State) -> State
     ensures { result ≡ snooped bus s }
 {
-    State::try_from(rules::snooped_byte(bus_number(bus), u8::from(s))).unwrap()
-}
-
-// The command hands the line's new word to the holders.
-#[tactic(auto, using(crate::proofs::Parts::codes))]
-fn hands_word(bus: Bus) -> bool
-    ensures { result ≡ updates bus }
-{
-    rules::hands_word(bus_number(bus))
+    State::try_from(rules::snooped_byte(bus, u8::from(s))).unwrap()
 }
 
 // A row of a table with no cell filled in, with no memory access, and met on tables that pass the audit.
@@ -269,7 +231,7 @@ fn snoop_row(hears: Bus, s: State) -> Row
         hears: Some(hears),
         state: Some(s),
         next: Some(snooped(hears, s)),
-        takes: Some(hands_word(hears)),
+        takes: Some(hears.hands_word()),
         audited: s.is_valid() && is_snoop_audited(hears, s),
         ..blank_row(Table::Snoop)
     }

@@ -5,7 +5,6 @@ use Rattle.words.specs.declared.access.Access.{Access}
 use Rattle.words.specs.Access.{effect_at}
 use Rattle.protocol.specs.declared.state.Mode.{Mode}
 use Rattle.protocol.specs.State.{code}
-use Rattle.protocol.specs.Coded.{bus_number}
 use Rattle.shape.specs.declared.Shape.{Shape}
 use Rattle.shape.specs.Shape.{tag_of}
 use Rattle.model.specs.Tables.{Model, word_at, holds}
@@ -32,7 +31,7 @@ decided s t i a acc m =
     record {
       entry = record { tag = tag_of s a; byte = code r.own; word = e.word };
       others = ports_from (other s t i a) 0 s.ports;
-      bus = bus_number r.bus;
+      bus = r.bus;
       evicted = then_some (evicts_owner s t i a) (record { line = victim s t i a; word = word_at s t a i });
       stored = then_some r.stores (record { line = a; word = e.word });
       answer = (accessed s t i a acc m).answer;

@@ -16,6 +16,7 @@ use ports::entry;
 use ports::entry::Entry;
 use ports::line::Line;
 use ports::survey::Masks;
+use protocol::rules::Bus;
 use protocol::state::{Mode, State};
 use protocol::{rules, state};
 use words::access::Access;
@@ -28,13 +29,13 @@ pub struct Store {
     pub word: u64,
 }
 
-// The own entry afterwards; the other holders, a bit for each port, and the number of the bus command that they hear; what is stored of an owner
+// The own entry afterwards; the other holders, a bit for each port, and the bus command that they hear; what is stored of an owner
 // that is evicted, and what of the line; and the answer.
 #[derive(Clone, Copy)]
 pub struct Decision {
     pub entry: Entry,
     pub others: u64,
-    pub bus: u8,
+    pub bus: Bus,
     pub evicted: Option<Store>,
     pub stored: Option<Store>,
     pub answer: Answer,

@@ -1,11 +1,11 @@
 -- Rows of nibbles: what stands at a state's nibble of a packed row, the number of a row, and what a rewrite takes off it. Assumes nothing.
 use Prim.Native.Nat.{ℕ, zero, suc, ◌+◌, ◌-◌, ◌*◌, ◌/◌, ◌%◌, ◌<◌, ◌≤◌}
 use mathlib.Core.Bool.{Bool, true, false}
-use mathlib.Core.Path.{◌≡◌, refl, sym, ◌∙◌}
+use mathlib.Core.Path.{◌≡◌, refl}
 use mathlib.Core.Logic.{◌≢◌}
 use native.Mathlib.Omega.{arith}
 use lib.Dec.{eqb, leb, ltb}
-use borrow.Author.Tests.{ltb-true, le-leb, lt-leb, leb-true, leb-false, ne_eqb, not-true}
+use borrow.Author.Tests.{ltb-true, le-leb, lt-leb}
 use Rattle.protocol.specs.declared.state.Mode.{Mode}
 use Rattle.protocol.specs.declared.state.Mode.TheVariants.{Through, Back}
 use Rattle.protocol.specs.declared.state.State.{State}
@@ -20,10 +20,10 @@ use Rattle.protocol.specs.declared.rules.Coded.{Coded}
 use Rattle.words.specs.Bools.{bit}
 use Rattle.words.specs.Access.{writes}
 use Rattle.protocol.specs.State.{code, state_of, is_state, or_invalid, is_back}
-use Rattle.protocol.specs.Rules.{rule, snooped, updates}
+use Rattle.protocol.specs.Rules.{rule, snooped}
 use Rattle.protocol.specs.Coded.{bus_number, bus_at, coded, pack, nibble_at, packed, act_number, own_row, mode_number, outcome_at}
 use Rattle.protocol.specs.Coded.{mode_at, own_row_at, taken_off, snoop_row}
-use Rattle.words.proofs.Bools.{Is, by_bool, by_cond}
+use Rattle.words.proofs.Bools.{Is}
 use Rattle.protocol.proofs.Finite.{at_bus}
 use Rattle.protocol.proofs.States.{code_small, code-state_of}
 
@@ -173,47 +173,20 @@ row_fits k m shared dirty ew ev ea eb ec ed er ek = rw (ek, er, ea, eb, ec, ed, 
 
 pub own_rule_is : (k : Outcome) (m : Mode) (shared dirty : Bool) (s : ℕ) → Is (is_state (state_of s)) → {a b c d off x y : ℕ} {w v : Bool} {row : Row} →
     w ≡ writes k → v ≡ is_back m → a ≡ bit w → b ≡ bit v → c ≡ bit shared → d ≡ bit dirty → row ≡ own_row_at (((a * 2 + b) * 2 + c) * 2 + d) →
-    x ≡ nibble_at row.1 (s % 16) → off ≡ taken_off k m → y ≡ nibble_at (row.0 - off) (s % 16) →
-    ◌≡◌ {A = Coded} (record { own = y; bus = x % 8; stores = leb 8 x }) (coded (rule k m shared dirty (or_invalid (state_of s))))
+    x ≡ nibble_at row.1 (s % 16) → {n : Bus} → n ≡ bus_at (x % 8) → off ≡ taken_off k m → y ≡ nibble_at (row.0 - off) (s % 16) →
+    ◌≡◌ {A = Coded} (record { own = y; bus = n; stores = leb 8 x }) (coded (rule k m shared dirty (or_invalid (state_of s))))
 unfolding own_row coded
-own_rule_is k m shared dirty s h ew ev ea eb ec ed er ex ek ey =
+own_rule_is k m shared dirty s h ew ev ea eb ec ed er ex en ek ey =
     let z = or_invalid (state_of s) in
     let r = rule k m shared dirty z in
     let own = packed_at (λ s. code (rule k m shared dirty s).own) (λ s. code_small (rule k m shared dirty s).own) z in
     let act = packed_at (λ s. act_number (rule k m shared dirty s)) (λ s. act_small (rule k m shared dirty s)) z in
     let next = (cleaned k m shared dirty).1 in
-    rw (ey, ek, ex, er, ea, eb, ec, ed, ew, ev, back_number m, row_at k m shared dirty, next, acts_same k m shared dirty, place s h, own, act, act_bus r, act_stores r)
+    rw (ey, ek, en, ex, er, ea, eb, ec, ed, ew, ev, back_number m, row_at k m shared dirty, next, acts_same k m shared dirty, place s h, own, act, act_bus r, bus_at_lem r.bus, act_stores r)
 
 -- The nibble of the command's row is what the holder becomes.
-pub snooped_is : (n s : ℕ) → Is (is_state (state_of s)) → {row x : ℕ} → row ≡ snoop_row n → x ≡ nibble_at row (s % 16) →
-    x ≡ code (snooped (bus_at n) (or_invalid (state_of s)))
+pub snooped_is : (b : Bus) (s : ℕ) → Is (is_state (state_of s)) → {row x : ℕ} → row ≡ snoop_row b → x ≡ nibble_at row (s % 16) →
+    x ≡ code (snooped b (or_invalid (state_of s)))
 unfolding snoop_row
-snooped_is n s h er ex =
-    rw (ex, er, place s h) (packed_at (λ s. code (snooped (bus_at n) s)) (λ s. code_small (snooped (bus_at n) s)) (or_invalid (state_of s)))
-
--- Commands 5 and up hand the word on.
-low_command : (n : ℕ) → n < 5 → leb 5 n ≡ updates (bus_at n)
-unfolding updates bus_at
-low_command zero h = refl
-low_command (suc zero) h = refl
-low_command (suc (suc zero)) h = refl
-low_command (suc (suc (suc zero))) h = refl
-low_command (suc (suc (suc (suc zero)))) h = refl
-low_command (suc (suc (suc (suc (suc n))))) h = absurd (omega arith)
-
-high_command : (n : ℕ) → 5 ≤ n → Is (updates (bus_at n))
-unfolding updates bus_at
-high_command n h =
-    rw (
-      ne_eqb n 0 (λ e. omega arith),
-      ne_eqb n 1 (λ e. omega arith),
-      ne_eqb n 2 (λ e. omega arith),
-      ne_eqb n 3 (λ e. omega arith),
-      ne_eqb n 4
-          (λ e. omega arith),
-    )
-    (by_cond (λ b. Is (updates b)) (eqb n 5) _ _ (λ _. refl) (λ _. refl))
-
-pub updates_is : (n : ℕ) → leb 5 n ≡ updates (bus_at n)
-updates_is n =
-    by_bool (leb 5 n) (λ h. h ∙ sym (high_command n (leb-true 5 n h))) (λ h. low_command n (leb-false 5 n (not-true _ h)))
+snooped_is b s h er ex =
+    rw (ex, er, place s h) (packed_at (λ s. code (snooped b s)) (λ s. code_small (snooped b s)) (or_invalid (state_of s)))

@@ -35,9 +35,9 @@ bus_at n =
     (cond (eqb n 5) (Update Through)
     (Update Back))))))
 
--- A rule in numbers.
+-- A rule with the state by its byte.
 unfoldable pub coded : Rule → Coded
-coded r = record { own = code r.own; bus = bus_number r.bus; stores = r.stores }
+coded r = record { own = code r.own; bus = r.bus; stores = r.stores }
 
 -- A list of nibbles as a number, the lowest first, and nibble k of a number.
 unfoldable pub pack : List ℕ → ℕ
@@ -89,5 +89,5 @@ unfoldable pub taken_off : Outcome → Mode → ℕ
 taken_off k m = cond (rewrites k && is_back m) (packed (λ s. cond (is_e s) (code M - code (E Back)) 0)) 0
 
 -- The row of the snoop table of a command: what a holder's byte becomes.
-unfoldable pub snoop_row : ℕ → ℕ
-snoop_row n = packed (λ s. code (snooped (bus_at n) s))
+unfoldable pub snoop_row : Bus → ℕ
+snoop_row b = packed (λ s. code (snooped b s))

@@ -35,6 +35,14 @@ snooped (Update m) s = sharing m s
 snooped Invalidate s = I
 snooped ShareOwned s = sharing_owned s
 
+-- Nothing goes over the bus.
+abbrev pub is_quiet : Bus → Bool
+is_quiet Quiet = true
+is_quiet (Share m) = false
+is_quiet (Update m) = false
+is_quiet Invalidate = false
+is_quiet ShareOwned = false
+
 -- The command hands the line's new word to the holders.
 unfoldable pub updates : Bus → Bool
 updates Quiet = false

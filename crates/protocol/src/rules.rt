@@ -1,9 +1,9 @@
 // Bus commands and the two rule tables: the port's own, and the snoop table of the other holders.
-ghost use Rattle.std.specs.Prelude.{◌≡◌, true, ◌<◌, ◌≤◌, ◌%◌};
+ghost use Rattle.std.specs.Prelude.{◌≡◌, true, ◌<◌, ◌%◌};
 ghost use Rattle.words.specs.Bools.{bit};
 ghost use Rattle.words.specs.Access.{writes};
 ghost use Rattle.protocol.specs.State.{code, state_of, or_invalid, is_state};
-ghost use Rattle.protocol.specs.Rules.{rule, snooped, updates};
+ghost use Rattle.protocol.specs.Rules.{rule, snooped, is_quiet, updates};
 ghost use Rattle.protocol.specs.Coded.{bus_at, coded, nibble_at, mode_number, own_row_at, rewrites, taken_off, snoop_row};
 
 use crate::state::{Mode, State};
@@ -21,6 +21,23 @@ pub enum Bus {
     ShareOwned,
 }
 
+impl Bus {
+    // Nothing goes over the bus.
+    pub fn is_quiet(self) -> bool
+        ensures { result ≡ is_quiet self }
+    {
+        matches!(self, Bus::Quiet)
+    }
+
+    // The command hands the new word to the holders.
+    #[tactic(auto, unfolding(crate::specs::Rules::updates))]
+    pub fn hands_word(self) -> bool
+        ensures { result ≡ updates self }
+    {
+        matches!(self, Bus::Update(_))
+    }
+}
+
 // A rule of the own table: the port's next state, what goes over the bus, and whether memory gets the line's word.
 #[derive(Clone, Copy, Debug, PartialEq, Eq)]
 pub struct Rule {
@@ -29,11 +46,11 @@ pub struct Rule {
     pub stores: bool,
 }
 
-// The same in numbers: the state's byte and the number of the bus command.
+// The same with the state's byte.
 #[derive(Clone, Copy, Debug, PartialEq, Eq)]
 pub struct Coded {
     pub own: u8,
-    pub bus: u8,
+    pub bus: Bus,
     pub stores: bool,
 }
 
@@ -67,20 +84,33 @@ fn own_row(n: u8) -> Row
     }
 }
 
+// The command of a number, as the rows have them.
+#[tactic(auto, unfolding(crate::specs::Coded::bus_at))]
+pub fn bus_at(n: u8) -> Bus
+    ensures { result ≡ bus_at n }
+{
+    match n {
+        0 => Bus::Quiet,
+        1 => Bus::Invalidate,
+        2 => Bus::ShareOwned,
+        3 => Bus::Share(Mode::Through),
+        4 => Bus::Share(Mode::Back),
+        5 => Bus::Update(Mode::Through),
+        _ => Bus::Update(Mode::Back),
+    }
+}
+
 // The snoop table: for each bus command a row with the byte that each state byte becomes.
-#[tactic(auto, unfolding(crate::specs::Coded::snoop_row, crate::specs::Coded::packed, crate::specs::Coded::pack, crate::specs::Coded::bus_at, crate::specs::Rules::snooped, crate::specs::State::code))]
-pub fn snoop_row(bus: u8) -> u64
-    requires { bus < 7 }
+#[tactic(auto, unfolding(crate::specs::Coded::snoop_row, crate::specs::Coded::packed, crate::specs::Coded::pack, crate::specs::Rules::snooped, crate::specs::State::code))]
+pub fn snoop_row(bus: Bus) -> u64
     ensures { result ≡ snoop_row bus }
 {
     match bus {
-        0 => 0xCBA9000000210,
-        1 => 0x0000000000000,
-        2 => 0xBB99000000990,
-        3 => 0x1111000000110,
-        4 => 0x9999000000990,
-        5 => 0x1111000000110,
-        _ => 0x9999000000990,
+        Bus::Quiet => 0xCBA9000000210,
+        Bus::Invalidate => 0x0000000000000,
+        Bus::ShareOwned => 0xBB99000000990,
+        Bus::Share(Mode::Through) | Bus::Update(Mode::Through) => 0x1111000000110,
+        Bus::Share(Mode::Back) | Bus::Update(Mode::Back) => 0x9999000000990,
     }
 }
 
@@ -123,32 +153,16 @@ pub fn own_rule(k: Outcome, m: Mode, shared: bool, dirty: bool, s: u8) -> Coded
     let act = nibble(row.1, s);
     Coded {
         own: nibble(row.0 - taken_off(k, m), s),
-        bus: act % 8,
+        bus: bus_at(act % 8),
         stores: 8 <= act,
     }
 }
 
 // The byte that a holder's byte s becomes at a bus command.
 #[tactic(auto, using(crate::proofs::Rows::snooped_is))]
-pub fn snooped_byte(bus: u8, s: u8) -> u8
-    requires { (bus < 7) × (is_state (state_of s) ≡ true) }
-    ensures { result ≡ code (snooped (bus_at bus) (or_invalid (state_of s))) }
+pub fn snooped_byte(bus: Bus, s: u8) -> u8
+    requires { is_state (state_of s) ≡ true }
+    ensures { result ≡ code (snooped bus (or_invalid (state_of s))) }
 {
     nibble(snoop_row(bus), s)
-}
-
-// The number of the command to become I, for a device, which has no row in the own table.
-#[tactic(auto, unfolding(crate::specs::Coded::bus_at))]
-pub fn invalidate() -> u8
-    ensures { (bus_at result ≡ Bus.Invalidate) × (result < 7) }
-{
-    1u8
-}
-
-// The command hands the new word to the holders.
-#[tactic(auto, using(crate::proofs::Rows::updates_is))]
-pub fn hands_word(bus: u8) -> bool
-    ensures { result ≡ updates (bus_at bus) }
-{
-    5 <= bus
 }

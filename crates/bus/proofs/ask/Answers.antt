@@ -2,5 +2,5 @@
 use Rattle.bus.proofs.Answers.{unasked}
 use Rattle.bus.proofs.ask.Goals as goal
 
-pub returns-else-asked-bus : goal.returns-else-asked-bus
-returns-else-asked-bus c = search unasked
+pub returns-else-asked-is_quiet : goal.returns-else-asked-is_quiet
+returns-else-asked-is_quiet c = search unasked

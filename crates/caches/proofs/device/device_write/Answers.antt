@@ -22,5 +22,5 @@ pub returns : goal.returns
 returns c =
     let x = c.args in
     written_done c.requires.placed (bytes x.memory.now x.tags.now x.states.now x.words.now) c.requires.said _ _ _
-    c.invalidate-command.ensures.0 c.supplied_word-supplied.ensures (word_merged _ _ _ c.merged-merge.ensures)
+    c.supplied_word-supplied.ensures (word_merged _ _ _ c.merged-merge.ensures)
     c.ask.ensures c.store.ensures c.accept.ensures
