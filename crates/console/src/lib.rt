@@ -2,9 +2,13 @@
 // buffer is full.
 #![tactic(auto)]
 
-ghost use Rattle.std.specs.Prelude.{◌≤◌, IfOk, length};
+ghost use Rattle.std.specs.Prelude.{◌≤◌, IfOk, OnOk, length};
+ghost use Rattle.std.specs.Fn.{FnOnceReturnsAtMut};
 
-use std::io::{Cursor, Read, Result};
+use std::io::{Cursor, Read, Result, Write};
+
+// Room for one line of a program. None is longer than 231 bytes: those of eleven numbers of twenty digits.
+pub const LINE: usize = 256;
 
 // Writes what was laid out of a page, in one call, so that a program has one place to fail at and needs no memory but its stack.
 pub fn print_page<const N: usize>(rt: &impl Print, page: &Cursor<[u8; N]>) -> Result<()> {
@@ -13,7 +17,26 @@ pub fn print_page<const N: usize>(rt: &impl Print, page: &Cursor<[u8; N]>) -> Re
     rt.write_all(&bytes[..n])
 }
 
-// Reads until the buffer is full or the input ends. Returns how many bytes it put in front in the buffer.
+// Lays out one line and then writes it, in one call.
+pub fn print_line<F: FnOnce(&mut Cursor<[u8; LINE]>) -> Result<()>>(
+    rt: &impl Print,
+    put: F,
+) -> Result<()>
+    requires { F.IsAlwaysCallable put }
+    ensures { OnOk result ((blank : _) × (page : _) × FnOnceReturnsAtMut F.FnOnce put blank (Ok tt) page) }
+{
+    let mut line = Cursor::new([0u8; LINE]);
+    put(&mut line)?;
+    print_page(rt, &line)
+}
+
+// The line of a trace that is refused.
+pub fn print_refusal(rt: &impl Print, refusal: u64) -> Result<()> {
+    print_line(rt, |out| writeln!(out, "refused {refusal}"))
+}
+
+// Reads until the buffer is full or the input ends. Returns how many bytes it put in front in the buffer, which `read_exact` doesn't say of an
+// input that ends early.
 pub fn read_full<R: Read>(input: &mut R, buffer: &mut [u8]) -> Result<usize>
     ensures { IfOk result (λ n. n ≤ length buffer.new) }
 {

@@ -1,25 +1,27 @@
 -- What a trace yields, from what the code's parts yield. Assumes nothing.
-use Prim.Native.Nat.{ℕ, zero, suc, ◌-◌, ◌≤◌}
+use Prim.Native.Nat.{ℕ, zero, suc, ◌*◌, ◌-◌, ◌≤◌}
 use mathlib.Core.Path.{◌≡◌, refl, ap, ◌∙◌}
-use mathlib.Core.Logic.{◌≢◌}
 use mathlib.Core.Bool.{Bool, true}
-use mathlib.Core.List.{List, ◌∷◌}
+use mathlib.Core.List.{List, ◌∷◌, ◌++◌}
 use native.Mathlib.Omega.{arith}
 use lib.ListN.{length, take, drop, replicate}
-use borrow.Author.Tests.{eq-eqb, ne_eqb}
+use borrow.Author.Tests.{ne_eqb}
 use Rattle.shape.specs.declared.Shape.{Shape}
 use Rattle.shape.specs.declared.Sizes.{Sizes}
-use Rattle.shape.specs.Shape.{in_range, entries, sizes_of, ranges_end}
-use Rattle.model.specs.Tables.{Model}
+use Rattle.shape.specs.Shape.{in_range, entries, sizes_of, memory_bytes, tags_bytes, states_bytes, data_bytes}
+use Rattle.model.specs.declared.answer.Answer.{Answer}
 use Rattle.model.specs.Fresh.{zeroed}
 use Rattle.model.specs.Audit.{audit}
 use Rattle.endian.specs.Little.{number, numbers}
-use Rattle.ports.specs.Bytes.{Bytes, bytes, model_in, Fitting}
+use Rattle.ports.specs.Bytes.{model_in}
 use Rattle.shape.proofs.Bounds.{bounded}
-use Rattle.replay.specs.declared.Played.{Played}
+use Rattle.refusals.specs.declared.Refusal.{Refusal}
+use Rattle.refusals.specs.Numbers.{number as refusal_number}
+use Rattle.refusals.proofs.Numbers.{some_number}
 use Rattle.model.specs.Marks.{model_run}
-use Rattle.replay.specs.Trace.{shape_in, orders_in, trace_refusal, orders_of, trace_orders, answers_to, placed, start, refused, played, answers_of}
-use Rattle.replay.proofs.Refusing.{whole}
+use Rattle.replay.specs.Trace.{shape_in, orders_in, trace_refusal, orders_of, trace_orders, fives, answers_to, placed, start, refused, played, answers_of}
+use Rattle.replay.specs.Shaped.{Shaped, shaped, shaped_in}
+use Rattle.replay.proofs.Running.{orders_length, answers_length, fives_behind}
 
 -- Prefixes of zeros are the start.
 zeros : (k n : ℕ) → k ≤ n → ◌≡◌ {A = List ℕ} (take k (replicate n 0)) (replicate k 0)
@@ -58,57 +60,41 @@ module _ (s : Shape) (h : in_range s ≡ true) {n : Sizes} (e : n ≡ sizes_of s
   pub data_few : n.«data» ≤ 4096
   data_few = rw e (omega (arith, (bounded s h).entries-most))
 
-  -- Slices of these lengths fit the shape, whatever they hold.
-  pub start_fits : ranges_end s ≡ true → {m g t d : List ℕ} → length m ≡ n.memory → length g ≡ n.tags → length t ≡ n.states → length d ≡ n.«data»
-      → Fitting s (bytes m g t d)
-  start_fits ends em eg et ed = record {
-    range = h;
-    ends = ends;
-    memory_fits = em ∙ ap (λ (z : Sizes). z.memory) e;
-    filled = record {
-      tags_fit = eg ∙ ap (λ (z : Sizes). z.tags) e;
-      states_fit = et ∙ ap (λ (z : Sizes). z.states) e;
-      words_fit = ed ∙ ap (λ (z : Sizes). z.«data») e;
-    };
-  }
+-- Arrays of zeros hold the start.
+pub start_is : (s : Shape) → in_range s ≡ true
+    → shaped_in s (replicate 32768 0) (replicate 2048 0) (replicate 512 0) (replicate 4096 0) ≡ shaped s (start s)
+unfolding start zeroed model_in
+start_is s h =
+    rw (
+      zeros (memory_bytes s) 32768 (memory_few s h refl),
+      zeros (tags_bytes s) 2048 (tags_few s h refl),
+      zeros (states_bytes s) 512 (states_few s h refl),
+      zeros (data_bytes s) 4096 (data_few s h refl),
+      numbers-zeros 8 s.lines (memory_bytes s),
+      numbers-zeros 4 (entries s) (tags_bytes s),
+      numbers-zeros 8 (entries s) (data_bytes s),
+    )
 
-  -- Zeros are the start.
-  abbrev zero_bytes : Bytes
-  zero_bytes =
-      bytes (take n.memory (replicate 32768 0)) (take n.tags (replicate 2048 0)) (take n.states (replicate 512 0))
-      (take n.«data» (replicate 4096 0))
+-- The parts that are lent are those of the trace, and the answers go to the front.
+pub parts_played : (s : Shape) (n : ℕ) (ys₀ : List Answer) {us vs ws xs : List ℕ} → us ≡ ws → vs ≡ xs → {m : Shaped} → m ≡ shaped s (start s)
+    → {j : ℕ} → j ≡ n → (ys : List Answer) → fives ys ≡ answers_to m.shape (orders_of us vs 0 j) m.model
+    → fives (ys ++ drop n ys₀) ≡ placed (answers_to s (orders_of ws xs 0 n) (start s)) (fives ys₀)
+parts_played s n ys₀ {ws = ws} {xs} ew ex em ej ys h =
+    let e : fives ys ≡ answers_to s (orders_of ws xs 0 n) (start s) = rw (ew, ex, em, ej) at h in
+    let l : length (answers_to s (orders_of ws xs 0 n) (start s)) ≡ 5 * n =
+    answers_length s (orders_of ws xs 0 n) (start s) ∙ ap (λ k. 5 * k) (orders_length ws xs 0 n) in
+    rw l (fives_behind ys ys₀ n ∙ ap (λ (v : List ℕ). v ++ drop (5 * n) (fives ys₀)) e)
 
-  pub start_is : model_in s zero_bytes ≡ start s
-  unfolding start zeroed model_in
-  start_is =
-      rw (
-        zeros n.memory 32768 memory_few,
-        zeros n.tags 2048 tags_few,
-        zeros n.states 512 states_few,
-        zeros n.«data» 4096 data_few,
-        numbers-zeros 8 s.lines n.memory,
-        numbers-zeros 4 (entries s) n.tags,
-        numbers-zeros 8 (entries s) n.«data»,
-        e,
-      )
-
--- The parts that are lent are those of the trace.
-pub parts_played : (s : Shape) (n : ℕ) (a₀ : List ℕ) {us vs ws xs : List ℕ} → us ≡ ws → vs ≡ xs → {t u : Model} → t ≡ u
-    → {b : Bool} {a : List ℕ} → (b ≡ audit s (model_run s (orders_of us vs 0 n) t)) × (a ≡ placed (answers_to s (orders_of us vs 0 n) t) a₀)
-    → (b ≡ audit s (model_run s (orders_of ws xs 0 n) u)) × (a ≡ placed (answers_to s (orders_of ws xs 0 n) u) a₀)
-parts_played s n a₀ ew ex et h = rw (ew, ex, et) at h
-
--- What `play_trace` promises of its result, and of the answers before and after.
-abbrev Yields : List ℕ → Played → List ℕ → List ℕ → Type 0
-Yields bs r a₀ a = (r ≡ played bs) × ((r.orders ≤ 2048) × (a ≡ placed (answers_of bs) a₀))
-
-module _ (bs a₀ : List ℕ) {n : ℕ} (e : n ≡ trace_refusal bs) where
-  pub trace_refused : n ≢ 0 → {r : Played} → r ≡ refused n → Yields bs r a₀ a₀
+module _ (bs : List ℕ) (ys₀ : List Answer) where
+  -- A refused trace.
+  pub trace_refused : (r : Refusal) → refusal_number r ≡ trace_refusal bs
+      → (refused (refusal_number r) ≡ played bs) × (fives ys₀ ≡ placed (answers_of bs) (fives ys₀))
   unfolding played answers_of
-  trace_refused d f = (f ∙ rw (← e, ne_eqb n 0 d), (rw f (omega arith), rw (← e, ne_eqb n 0 d)))
+  trace_refused r e = (rw (← e, ne_eqb (refusal_number r) 0 (some_number r)), rw (← e, ne_eqb (refusal_number r) 0 (some_number r)))
 
-  pub trace_played : n ≡ 0 → {s : Shape} → s ≡ shape_in bs → {k : ℕ} → k ≡ orders_in bs → {b : Bool} {a : List ℕ}
-      → (b ≡ audit s (model_run s (trace_orders k bs) (start s))) × (a ≡ placed (answers_to s (trace_orders k bs) (start s)) a₀)
-      → Yields bs (record { refusal = 0; shape = s; orders = k; passes = b }) a₀ a
+  -- A trace that is played.
+  pub trace_played : 0 ≡ trace_refusal bs → {s : Shape} → s ≡ shape_in bs → {k : ℕ} → k ≡ orders_in bs → {b : Bool} (ys : List Answer)
+      → b ≡ audit s (model_run s (trace_orders k bs) (start s)) → fives ys ≡ placed (answers_to s (trace_orders k bs) (start s)) (fives ys₀)
+      → (record { refusal = 0; shape = s; orders = k; passes = b } ≡ played bs) × (fives ys ≡ placed (answers_of bs) (fives ys₀))
   unfolding played answers_of
-  trace_played z es ek h = (rw (← e, eq-eqb n 0 z, h.0, es, ek), (rw ek (whole bs e z).few, rw (← e, eq-eqb n 0 z) (rw (es, ek) at h.1)))
+  trace_played e es ek ys h g = (rw (← e, h, es, ek), rw (← e) (rw (es, ek) at g))

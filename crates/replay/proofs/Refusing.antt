@@ -1,6 +1,6 @@
 -- Refusals 1 and 2 of a trace, in checking order, and what holds of a trace that has none. Assumes nothing.
 use Prim.Native.Nat.{ℕ, ◌+◌, ◌*◌, ◌<◌, ◌≤◌}
-use mathlib.Core.Path.{◌≡◌, refl, sym, ◌∙◌}
+use mathlib.Core.Path.{◌≡◌, refl, sym}
 use mathlib.Core.Logic.{◌≢◌}
 use mathlib.Core.Bool.{Bool, true, false, cond, ◌||◌, not}
 use mathlib.Core.List.{List}
@@ -26,20 +26,20 @@ none false true e = (refl, refl)
 none false false e = absurd (omega (arith, e))
 
 module _ (bs : List ℕ) where
-  pub whole : {n : ℕ} → n ≡ trace_refusal bs → n ≡ 0 → Whole bs
+  pub whole : 0 ≡ trace_refusal bs → Whole bs
   unfolding trace_refusal
-  whole e z =
+  whole e =
       let short = ltb (length bs) 16 in
       let many = ltb 2048 (orders_in bs) in
-      let f = none (short || many || not (eqb (length bs) (16 + 16 * orders_in bs))) (in_range (shape_in bs)) (sym e ∙ z) in
+      let f = none (short || many || not (eqb (length bs) (16 + 16 * orders_in bs))) (in_range (shape_in bs)) (sym e) in
       let g = neither (short || many) _ f.0 in
       record { few = ltb-false _ _ (neither short many g.0).1; fits = eqb-true _ _ (not-false _ g.1); range = f.1 }
 
   -- The same of the sizes as read.
-  pub whole_is : {n : ℕ} → n ≡ trace_refusal bs → n ≡ 0 → {s : Shape} → s ≡ shape_in bs → {k : ℕ} → k ≡ orders_in bs
+  pub whole_is : 0 ≡ trace_refusal bs → {s : Shape} → s ≡ shape_in bs → {k : ℕ} → k ≡ orders_in bs
       → (in_range s ≡ true) × ((ranges_end s ≡ true) × ((k ≤ 2048) × (length bs ≡ 16 + 16 * k)))
   unfolding ranges_end ends_by
-  whole_is e z es ek = let w = whole e z in (rw es w.range, (rw es refl, (rw ek w.few, rw ek w.fits)))
+  whole_is e es ek = let w = whole e in (rw es w.range, (rw es refl, (rw ek w.few, rw ek w.fits)))
 
   pub refused-short : length bs < 16 → 1 ≡ trace_refusal bs
   unfolding trace_refusal

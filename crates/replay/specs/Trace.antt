@@ -1,6 +1,8 @@
 -- A trace as a list of bytes: its sizes, its refusal, its orders, and what it yields on memory of zeros.
-use Rattle.std.specs.Prelude.{ℕ, zero, suc, ◌+◌, ◌*◌, false, cond, ◌||◌, not, List, [], ◌∷◌, ◌++◌, length, drop, replicate, eqb, ltb}
+use Rattle.std.specs.Prelude.{ℕ, zero, suc, ◌+◌, ◌*◌, Bool, false, cond, ◌||◌, not, List, [], ◌∷◌, ◌++◌, length, drop, replicate, eqb, ltb, Result, Ok, Err}
 use Rattle.endian.specs.Little.{number}
+use Rattle.refusals.specs.declared.Refusal.{Refusal}
+use Rattle.refusals.specs.Numbers.{number as refusal_number}
 use Rattle.shape.specs.declared.Shape.{Shape}
 use Rattle.model.specs.declared.answer.Answer.{Answer}
 use Rattle.shape.specs.Shape.{unranged, in_range}
@@ -51,6 +53,11 @@ trace_orders n bs = orders_of (words_part bs) (operands_part n bs) 0 n
 abbrev pub five : Answer → List ℕ
 five x = x.refusal ∷ x.value ∷ x.swapped ∷ x.reads ∷ x.writes ∷ []
 
+-- Those of a list of answers, one behind the other.
+unfoldable pub fives : List Answer → List ℕ
+fives [] = []
+fives (x ∷ xs) = five x ++ fives xs
+
 -- What a list of orders answers: five numbers to an order, one behind the other. Each step gets what the step before left, also after a
 -- refusal. (What the list leaves is `model_run`.)
 unfoldable pub answers_to : Shape → List Order → Model → List ℕ
@@ -65,18 +72,30 @@ placed vs l = vs ++ drop (length vs) l
 unfoldable pub start : Shape → Model
 start s = zeroed s (model (replicate s.lines 0) [] [] [])
 
+-- What a trace yields besides its answers, in one record: its refusal, 0 if none; its sizes; the audit of the end state.
+pub record Outcome : Type 0 where
+  pub refusal : ℕ
+  pub shape : Shape
+  pub orders : ℕ
+  pub passes : Bool
+
 -- A refused trace answers its number, and zeros.
-abbrev pub refused : ℕ → Played
+abbrev pub refused : ℕ → Outcome
 refused n = record { refusal = n; shape = unranged 0 0 0; orders = 0; passes = false }
 
 -- What a trace yields: its refusal, else its sizes and the audit of the end state.
-unfoldable pub played : List ℕ → Played
+unfoldable pub played : List ℕ → Outcome
 played bs =
     let s = shape_in bs in
     let n = orders_in bs in
     cond (eqb (trace_refusal bs) 0)
     (record { refusal = 0; shape = s; orders = n; passes = audit s (model_run s (trace_orders n bs) (start s)) })
     (refused (trace_refusal bs))
+
+-- The same of what the code returns.
+abbrev pub outcome_of : Result Played Refusal → Outcome
+outcome_of (Ok p) = record { refusal = 0; shape = p.shape; orders = p.orders; passes = p.passes }
+outcome_of (Err r) = refused (refusal_number r)
 
 -- And its answers: none on a refusal.
 unfoldable pub answers_of : List ℕ → List ℕ

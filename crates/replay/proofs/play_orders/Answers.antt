@@ -1,45 +1,12 @@
--- Prefixes of zeros are lent, and the two parts of the trace. Assumes nothing.
-use Rattle.std.proofs.Common.{◌+◌, ◌*◌, sym}
+-- The two parts of the trace are lent, and the front of the answers. Assumes nothing.
+use Rattle.std.proofs.Common.{◌+◌, ◌*◌, rules}
 use lib.Seq.{length-take-le}
 use borrow.Author.Rules.{part_to_end}
-use Rattle.replay.proofs.Playing.{memory_few, tags_few, states_few, data_few, start_fits, start_is, parts_played}
+use Rattle.replay.proofs.Playing.{parts_played}
 use Rattle.replay.proofs.play_orders.Goals as goal
 
-pub slice_bounds-memory-end : goal.slice_bounds-memory-end
-slice_bounds-memory-end c = memory_few _ c.requires.shape_value c.sizes-sizes.ensures
-
-pub slice_bounds-run_and_audit-end : goal.slice_bounds-run_and_audit-end
-slice_bounds-run_and_audit-end c = sym (length-take-le _ _ (memory_few _ c.requires.shape_value c.sizes-sizes.ensures))
-
-pub slice_bounds-tags-end : goal.slice_bounds-tags-end
-slice_bounds-tags-end c = tags_few _ c.requires.shape_value c.sizes-sizes.ensures
-
-pub slice_bounds-run_and_audit-end-2 : goal.slice_bounds-run_and_audit-end-2
-slice_bounds-run_and_audit-end-2 c = sym (length-take-le _ _ (tags_few _ c.requires.shape_value c.sizes-sizes.ensures))
-
-pub slice_bounds-states-end : goal.slice_bounds-states-end
-slice_bounds-states-end c = states_few _ c.requires.shape_value c.sizes-sizes.ensures
-
-pub slice_bounds-run_and_audit-end-3 : goal.slice_bounds-run_and_audit-end-3
-slice_bounds-run_and_audit-end-3 c = sym (length-take-le _ _ (states_few _ c.requires.shape_value c.sizes-sizes.ensures))
-
-pub slice_bounds-data-end : goal.slice_bounds-data-end
-slice_bounds-data-end c = data_few _ c.requires.shape_value c.sizes-sizes.ensures
-
-pub slice_bounds-run_and_audit-end-4 : goal.slice_bounds-run_and_audit-end-4
-slice_bounds-run_and_audit-end-4 c = sym (length-take-le _ _ (data_few _ c.requires.shape_value c.sizes-sizes.ensures))
-
-pub run_and_audit-requires-clause-fitting : goal.run_and_audit-requires-clause-fitting
-run_and_audit-requires-clause-fitting c =
-    let r = c.requires in
-    let e = c.sizes-sizes.ensures in
-    start_fits _ r.shape_value e r.shape_value_2
-    (length-take-le _ _ (memory_few _ r.shape_value e)) (length-take-le _ _ (tags_few _ r.shape_value e))
-    (length-take-le _ _ (states_few _ r.shape_value e)) (length-take-le _ _ (data_few _ r.shape_value e))
-
-pub returns : goal.returns
-returns c =
+pub returns-clause-answers : goal.returns-clause-answers
+returns-clause-answers c =
     let a = c.args in
-    let p = parts_played a.shape a.orders a.answers.now (part_to_end a.trace.now 16) (part_to_end a.trace.now (16 + 8 * a.orders))
-    (start_is _ c.requires.shape_value c.sizes-sizes.ensures) (c.run_and_audit.ensures.value, c.run_and_audit.ensures.answers_after) in
-    record { value = p.0; answers_after = p.1 }
+    parts_played a.shape a.orders a.answers.now (part_to_end a.trace.now 16) (part_to_end a.trace.now (16 + 8 * a.orders))
+    c.new-machine.ensures (length-take-le _ _ (search rules)) _ c.run_orders.ensures.answers

@@ -1,12 +1,8 @@
 -- The loop runs order after order. Assumes nothing.
-use Rattle.std.proofs.Common.{◌-◌}
-use Rattle.ports.specs.Bytes.{bytes}
+use Rattle.std.proofs.Common.{length}
 use Rattle.replay.proofs.Running.{Running}
 use Rattle.replay.proofs.run_orders.Given as goal
 
 abbrev pub invariant-loop-k : goal.invariant-loop-k
-invariant-loop-k l = Running l.shape l.words l.operands l.n (bytes l.fn.memory l.fn.tags l.fn.states l.fn.«data») l.fn.answers
-    (bytes l.memory l.tags l.states l.«data») l.answers l.k
-
-abbrev pub decreases-loop-k : goal.decreases-loop-k
-decreases-loop-k l = l.n - l.k
+invariant-loop-k l =
+    Running l.fn.machine.shape l.words l.operands (length l.fn.answers) l.fn.machine.model l.fn.answers l.machine l.answers l.k

@@ -1,11 +1,7 @@
 -- The loop adds place after place. Assumes nothing.
-use Rattle.std.proofs.Common.{◌-◌}
-use Rattle.counters.specs.Totals.{places, totals_in}
+use Rattle.counters.specs.Totals.{totals_in}
 use Rattle.tally.proofs.Adding.{Adding}
 use Rattle.tally.proofs.add_row.Given as goal
 
 abbrev pub invariant-loop-k : goal.invariant-loop-k
 invariant-loop-k l = Adding (totals_in l.fn.sum) (totals_in l.row) l.sum l.k
-
-abbrev pub decreases-loop-k : goal.decreases-loop-k
-decreases-loop-k l = places - l.k
