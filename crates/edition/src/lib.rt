@@ -39,6 +39,7 @@ fn convert_bytes(way: Way, table: &[u8], out: &mut [u8])
 
 // Three tables converted into three others. Every byte is checked before the first is written: a refusal leaves the output tables alone.
 #[tactic(auto, using(crate::proofs::Conversions::same_lengths, crate::proofs::Conversions::call_returns))]
+#[inline(always)]
 pub fn convert(
     way: Way,
     shape: Shape,
