@@ -1,11 +1,12 @@
--- What the loop over a state table keeps, and a number of a mapped list. Assumes nothing.
+-- What the loops over a state table keep, and a number of a mapped list. Assumes nothing.
 use Prim.Native.Nat.{ℕ, zero, suc, ◌+◌, ◌<◌, ◌≤◌}
 use mathlib.Core.Path.{◌≡◌, refl, sym, ap, ◌∙◌}
 use mathlib.Core.Bool.{Bool, true, false, cond, ◌||◌}
-use mathlib.Core.List.{List, [], ◌∷◌, map}
+use mathlib.Core.List.{List, [], ◌∷◌, ◌++◌, map}
 use native.Mathlib.Omega.{arith}
 use native.Mathlib.Numerals.{add-one}
-use lib.ListN.{get_or, length}
+use lib.ListN.{get_or, set, length, take, drop, length-map}
+use Rattle.std.proofs.lemmas.List.{take_all, drop_all, append-nil}
 use Rattle.std.specs.Prelude.{Result, Ok}
 use Rattle.refusals.specs.declared.Refusal.{Refusal}
 use Rattle.refusals.specs.Numbers.{refusal_in}
@@ -17,6 +18,22 @@ pub get-map : (f : ℕ → ℕ) (l : List ℕ) (k : ℕ) → k < length l → ge
 get-map f [] k h = absurd (omega arith)
 get-map f (x ∷ l) zero h = refl
 get-map f (x ∷ l) (suc k) h = get-map f l k (omega arith)
+
+-- The next number of a mapped list, written behind the first k.
+pub map_next : (f : ℕ → ℕ) (k : ℕ) (l d : List ℕ) → k < length l → length d ≡ length l
+    → set (take k (map f l) ++ drop k d) k (f (get_or l k 0)) ≡ take (k + 1) (map f l) ++ drop (k + 1) d
+map_next f k l d h e = rw (add-one k) (next k l d h e)
+  where
+    next : (k : ℕ) (l d : List ℕ) → k < length l → length d ≡ length l
+        → set (take k (map f l) ++ drop k d) k (f (get_or l k 0)) ≡ take (suc k) (map f l) ++ drop (suc k) d
+    next k [] d h e = absurd (omega arith)
+    next k (x ∷ l) [] h e = absurd (omega (arith, e))
+    next zero (x ∷ l) (y ∷ d) h e = refl
+    next (suc k) (x ∷ l) (y ∷ d) h e = ap (λ (z : List ℕ). f x ∷ z) (next k l d (omega arith) (omega (arith, e)))
+
+pub map_done : (f : ℕ → ℕ) (k : ℕ) (l d : List ℕ) → length l ≤ k → length d ≤ k → take k (map f l) ++ drop k d ≡ map f l
+map_done f k l d h e =
+    rw (take_all k (map f l) (omega (arith, length-map l f)), drop_all k d e) (append-nil (map f l))
 
 -- None of the first k of n numbers passes the first test, and what was found is 11 where one passes the second.
 pub record Asking (f g : ℕ → Bool) (n k : ℕ) (found : Result (Unit {0}) Refusal) : Type 0 where

@@ -26,18 +26,19 @@ fn states_refusal(way: Way, states: &[u8]) -> Result<(), Refusal>
     found
 }
 
-// Each state byte converted. No byte of the table is refused: `states_refusal` comes first.
+// Each state byte converted. No byte of the table is refused: `states_refusal` comes first. (Of `iter_mut().zip(table)` no contract says what
+// is written.)
 fn convert_bytes(way: Way, table: &[u8], out: &mut [u8])
     requires { length out.old ≡ length table.now }
     ensures { out.new ≡ map (λ b. byte_from (converted way b)) table.now }
 {
-    out.copy_from_slice(table);
-    for b in out.iter_mut() {
-        *b = letters::convert_byte(way, *b).unwrap_or(0);
+    for (k, b) in out.iter_mut().enumerate() {
+        *b = letters::convert_byte(way, table[k]).unwrap_or(0);
     }
 }
 
 // Three tables converted into three others. Every byte is checked before the first is written: a refusal leaves the output tables alone.
+// It goes into each caller, which knows the way: as a call of its own it takes up to 1.4 times as long.
 #[tactic(auto, using(crate::proofs::Conversions::same_lengths, crate::proofs::Conversions::call_returns))]
 #[inline(always)]
 pub fn convert(

@@ -1,16 +1,16 @@
--- The loop converts the bytes in their places. Assumes nothing.
-use Rattle.std.proofs.Common.{rules, arith, ◌≡◌, ◌∙◌, ap, slice_index_or}
-use Rattle.std.proofs.lemmas.List.{get_or_default, take_all, drop_all}
-use Rattle.std.proofs.lemmas.List.Edits.{map_over_more}
+-- The loop writes the next byte, converted. Assumes nothing.
+use Rattle.std.proofs.Common.{arith, ◌≡◌, ◌∙◌, ap, slice_index_or}
 use Rattle.letters.specs.Letters.{converted, byte_from}
+use Rattle.edition.proofs.Loops.{map_next, map_done}
 use Rattle.edition.proofs.convert_bytes.Goals as goal
 
-pub loop-b-preserved : goal.loop-b-preserved
-loop-b-preserved c =
-    let x = slice_index_or c.loop-b.out c.loop-b.b-index 0 in
-    let e : c.unwrap_or.result ≡ byte_from (converted c.args.way x) = c.unwrap_or.ensures ∙ ap byte_from c.convert_byte.ensures in
-    rw e (map_over_more (λ b. byte_from (converted c.args.way b)) c.args.table.now c.loop-b.out c.loop-b.b-index x (omega arith) c.loop-b.invariant
-    (get_or_default c.loop-b.out c.loop-b.b-index 0 x (omega arith)))
+pub loop-k-preserved : goal.loop-k-preserved
+loop-k-preserved c =
+    let e : c.unwrap_or.result ≡ byte_from (converted c.args.way (slice_index_or c.args.table.now c.loop-k.k 0)) =
+    c.unwrap_or.ensures ∙ ap byte_from c.convert_byte.ensures in
+    rw (c.loop-k.invariant, e)
+    (map_next (λ b. byte_from (converted c.args.way b)) c.loop-k.k c.args.table.now c.args.out.now (omega arith) (omega arith))
 
 pub returns : goal.returns
-returns c = search (rules, take_all, drop_all)
+returns c =
+    c.loop-k.invariant ∙ map_done (λ b. byte_from (converted c.args.way b)) c.loop-k.k c.args.table.now c.args.out.now (omega arith) c.loop-k-test.false
