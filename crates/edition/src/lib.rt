@@ -58,8 +58,8 @@ pub fn convert(
     if !shape.is_in_range() {
         return Err(Refusal::Shape);
     }
-    let given = lengths::tables_fit(shape, tags, states, data);
-    let lent = lengths::tables_fit(shape, tags_out, states_out, data_out);
+    let given = lengths::tables_fit(shape, tags.len(), states.len(), data.len());
+    let lent = lengths::tables_fit(shape, tags_out.len(), states_out.len(), data_out.len());
     if !(given & lent) {
         return Err(Refusal::Lengths);
     }

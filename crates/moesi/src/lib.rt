@@ -17,7 +17,7 @@ ghost use Rattle.edition.specs.Convert.{tables, conversion, convert};
 
 use counters::lent;
 use letters::Way;
-use shape::Shape;
+use shape::{Shape, Sizes};
 
 // The number of the refusal of what is lent, 0 if none; out says that the slice written to has its length.
 fn lent_refusal(
@@ -30,7 +30,13 @@ fn lent_refusal(
 ) -> u64
     ensures { result ≡ host_refusal shape (bytes memory.now tags.now states.now «data».now) out }
 {
-    refusals::number_of(lengths::check(shape, memory, tags, states, data, out))
+    let lent = Sizes {
+        memory: memory.len(),
+        tags: tags.len(),
+        states: states.len(),
+        data: data.len(),
+    };
+    refusals::number_of(lengths::check(shape, lent, out))
 }
 
 // One order: its five numbers go to answer, those of a refused order too. An answer of another length than 40 bytes is left alone.
