@@ -5,7 +5,7 @@
 ghost use Rattle.std.specs.Prelude.{◌≤◌, IfOk, OnOk, length};
 ghost use Rattle.std.specs.Fn.{FnOnceReturnsAtMut};
 
-use std::io::{Cursor, Read, Result, Write};
+use std::io::{Cursor, Read, Result};
 
 // Room for one line of a program. None is longer than 231 bytes: those of eleven numbers of twenty digits.
 pub const LINE: usize = 256;
@@ -28,11 +28,6 @@ pub fn print_line<F: FnOnce(&mut Cursor<[u8; LINE]>) -> Result<()>>(
     let mut line = Cursor::new([0u8; LINE]);
     put(&mut line)?;
     print_page(rt, &line)
-}
-
-// The line of a trace that is refused.
-pub fn print_refusal(rt: &impl Print, refusal: u64) -> Result<()> {
-    print_line(rt, |out| writeln!(out, "refused {refusal}"))
 }
 
 // Reads until the buffer is full or the input ends. Returns how many bytes it put in front in the buffer, which `read_exact` doesn't say of an

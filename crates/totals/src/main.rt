@@ -6,7 +6,7 @@
 ghost use Rattle.std.specs.Prelude.{◌≡◌, ◌≤◌, IfOk, length};
 ghost use Rattle.counters.specs.Totals.{record_length};
 
-use console::{print_line, print_refusal, read_full};
+use console::{print_line, read_full};
 use counters::lent::{PLACES, RECORD_BYTES};
 use std::io::{Read, Result, Write};
 
@@ -57,7 +57,7 @@ fn print_rows<R: Read>(rt: &impl Print, input: &mut R) -> Result<[u8; RECORD_BYT
             break;
         }
         if let Err(r) = tally::tally_trace(&buffer[..n], &mut row) {
-            print_refusal(rt, u64::from(r))?;
+            print_line(rt, |out| writeln!(out, "refused {}", u64::from(r)))?;
             break;
         }
         print_row(rt, k + 1, &row)?;

@@ -4,7 +4,7 @@
 
 ghost use Rattle.std.specs.Prelude.{◌≤◌, length};
 
-use console::{print_line, print_refusal, read_full};
+use console::{print_line, read_full};
 use model::answer::Answer;
 use replay::{MAX_ORDERS, Played};
 use std::io::{Result, Write};
@@ -70,6 +70,6 @@ fn main(rt: HostRuntime) -> Result<()> {
     let n = read_full(&mut rt.stdin(), &mut buffer)?;
     match replay::play_trace(&buffer[..n], &mut answers) {
         Ok(p) => print_played(&rt, p, &answers),
-        Err(r) => print_refusal(&rt, u64::from(r)),
+        Err(r) => print_line(&rt, |out| writeln!(out, "refused {}", u64::from(r))),
     }
 }
