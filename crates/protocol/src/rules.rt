@@ -59,7 +59,6 @@ pub struct Coded {
 #[derive(Clone, Copy, Debug, PartialEq, Eq)]
 pub struct Row(pub u64, pub u64);
 
-#[tactic(auto, unfolding(crate::specs::Coded::own_row_at, crate::specs::Coded::own_row, crate::specs::Coded::packed, crate::specs::Coded::pack, crate::specs::Coded::act_number, crate::specs::Coded::outcome_at, crate::specs::Coded::mode_at, crate::specs::Rules::rule, crate::specs::State::code, crate::specs::Coded::bus_number))]
 fn own_row(n: u8) -> Row
     requires { n < 16 }
     ensures { result ≡ own_row_at n }

@@ -26,14 +26,18 @@ returns-then-not-below_pass c = search tested_apart
 pub returns-then-e-word_at : goal.returns-then-e-word_at
 unfolding held_at below_pass model_in tables_in
 returns-then-e-word_at c =
+    let s = c.args.self.now in
+    let f = fitting s.range s.ends s.memory_fits s.tags_fit s.states_fit s.words_fit in
     tested_kept _ _ _ _ c.entry_number-k.ensures.0 c.held_at-e.ensures c.if-e-lt8.false c.home_of-home.ensures c.if-home-self.false
     c.below_pass.ensures (ap not c.if-not-below_pass.false)
-    (sym (memory_word (fitting c.args.self.now.range c.args.self.now.ends c.args.self.now.memory_fits c.args.self.now.tags_fit c.args.self.now.states_fit c.args.self.now.words_fit) c.if-home-self.false c.word_at.ensures)) c.is_owner.ensures c.if-e-word_at.true
+    (sym (memory_word f c.if-home-self.false c.word_at.ensures)) c.is_owner.ensures c.if-e-word_at.true
 
 pub returns : goal.returns
 unfolding held_at below_pass model_in tables_in
 returns c =
+    let s = c.args.self.now in
+    let f = fitting s.range s.ends s.memory_fits s.tags_fit s.states_fit s.words_fit in
     tested_owned _ _ _ _ c.entry_number-k.ensures.0 c.held_at-e.ensures c.if-e-lt8.false c.home_of-home.ensures c.if-home-self.false
     c.below_pass.ensures (ap not c.if-not-below_pass.false)
-    (sym (memory_word (fitting c.args.self.now.range c.args.self.now.ends c.args.self.now.memory_fits c.args.self.now.tags_fit c.args.self.now.states_fit c.args.self.now.words_fit) c.if-home-self.false c.word_at.ensures)) c.is_owner.ensures c.if-e-word_at.false
+    (sym (memory_word f c.if-home-self.false c.word_at.ensures)) c.is_owner.ensures c.if-e-word_at.false
     c.owned_at.ensures
