@@ -19,16 +19,26 @@ pub struct Counters {
 }
 
 impl Counters {
-    // The counters are lent, and brought up to date in place: one answer is added.
+    // The counters with one answer added.
     #[tactic(auto, unfolding(crate::specs::Counters::counters_after))]
+    fn added(self, a: Answer) -> Counters
+        requires { Room self a }
+        ensures { result ≡ counters_after self a }
+    {
+        Counters {
+            orders: self.orders + 1,
+            reads: self.reads + a.reads,
+            writes: self.writes + a.writes,
+            swaps: self.swaps + a.swapped,
+        }
+    }
+
+    // The counters are lent, and brought up to date in place: one answer is added.
     pub fn bring_up_to_date(&mut self, a: Answer)
         requires { Room self.old a }
         ensures { self.new ≡ counters_after self.old a }
     {
-        self.orders += 1;
-        self.reads += a.reads;
-        self.writes += a.writes;
-        self.swaps += a.swapped;
+        *self = self.added(a);
     }
 
     // The same for a caller that has the counters by value.

@@ -17,6 +17,7 @@ ghost use Rattle.edition.specs.Convert.{tables, conversion, convert};
 
 use counters::lent;
 use letters::Way;
+use refusals::Refusal;
 use shape::{Shape, Sizes};
 
 // The number of the refusal of what is lent, 0 if none; out says that the slice written to has its length.
@@ -122,8 +123,9 @@ pub fn moesi_step_totals(
         return n;
     }
     if lent::is_full(totals) {
-        host::put_refusal(answer, 9);
-        return 9;
+        let full = u64::from(Refusal::Totals);
+        host::put_refusal(answer, full);
+        return full;
     }
     let n = moesi_step(
         ports,

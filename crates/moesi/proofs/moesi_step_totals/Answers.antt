@@ -7,7 +7,8 @@ use Rattle.moesi.proofs.moesi_step_totals.Goals as goal
 pub returns-then-is_full : goal.returns-then-is_full
 returns-then-is_full c = (
   search of_bytes,
-  record_full _ _ _ _ _ (search) (sym c.is_full.ensures ∙ c.if-is_full.true) c.put_refusal-then-is_full.ensures,
+  rw c.from-full.ensures (record_full _ _ _ _ _ (search) (sym c.is_full.ensures ∙ c.if-is_full.true)
+      (rw c.from-full.ensures at c.put_refusal-then-is_full.ensures)),
 )
 
 pub counts_in-a-requires : goal.counts_in-a-requires
