@@ -1,17 +1,14 @@
 -- The class of a state says what the state says: each part is one test, computed over the states. Assumes nothing.
-use Prim.Native.Nat.{ℕ, ◌%◌}
-use mathlib.Core.Path.{◌≡◌, refl, sym, subst, ◌∙◌}
+use mathlib.Core.Path.{◌≡◌, refl}
 use mathlib.Core.Bool.{Bool, true, false, cond, ◌&&◌, not, false≢true}
 use lib.Dec.{eqb, leb}
-use borrow.Author.Tests.{eqb-true}
 use Rattle.std.specs.Prelude.{Option, Some, None}
 use Rattle.protocol.specs.declared.state.State.{State}
 use Rattle.words.specs.Bools.{implies}
-use Rattle.protocol.specs.State.{code, state_of, is_state, or_invalid, valid, owner, exclusive, is_o, mode_of, same_mode}
-use Rattle.protocol.specs.Coded.{nibble_at}
+use Rattle.protocol.specs.State.{is_state, or_invalid, valid, owner, exclusive, is_o, mode_of, same_mode}
 use Rattle.words.proofs.Bools.{Is, both, mp, not_both}
 use Rattle.protocol.proofs.Finite.{for_states, at_state}
-use Rattle.protocol.proofs.States.{code-state_of, same_mode_lem}
+use Rattle.protocol.proofs.States.{same_mode_lem}
 use Rattle.audit.specs.Entries.{class_number, class_of, is_owner, compatible}
 
 abbrev same : Bool → Bool → Bool
@@ -25,32 +22,6 @@ same_eq false false h = refl
 
 by_state : (f g : State → Bool) → Is (for_states (λ s. same (f s) (g s))) → (s : State) → f s ≡ g s
 by_state f g h s = same_eq (f s) (g s) (at_state (λ s. same (f s) (g s)) h s)
-
--- The row of nibbles has each state's class.
-abbrev pub class_row : ℕ
-class_row = 0xFDB9000000A80
-
-row-says : (s : State) → nibble_at class_row (code s % 16) ≡ class_number s
-unfolding nibble_at code
-row-says s = eqb-true _ _ (at_state (λ s. eqb (nibble_at class_row (code s % 16)) (class_number s)) refl s)
-
-state_class : (y : Option State) → Is (is_state y) → class_number (or_invalid y) ≡ class_of y
-state_class (Some s) h = refl
-state_class None h = absurd (false≢true h)
-
-pub class_row_lem : (b : ℕ) {z : Bool} {n : ℕ} → z ≡ is_state (state_of b) → z ≡ true → n ≡ nibble_at class_row (b % 16)
-    → n ≡ class_of (state_of b)
-class_row_lem b ez v en =
-    let h : Is (is_state (state_of b)) = sym ez ∙ v in
-    en ∙ subst (λ (k : ℕ). nibble_at class_row (k % 16) ≡ class_of (state_of b)) (code-state_of b h)
-    (row-says (or_invalid (state_of b)) ∙ state_class (state_of b) h)
-
-pub class_none : (b : ℕ) {z : Bool} → z ≡ is_state (state_of b) → z ≡ false → 1 ≡ class_of (state_of b)
-class_none b ez v = none (state_of b) (sym ez ∙ v)
-  where
-    none : (y : Option State) → is_state y ≡ false → 1 ≡ class_of y
-    none (Some s) h = absurd (false≢true (sym h))
-    none None h = refl
 
 -- Held, owned, and a state.
 pub class_valid : (y : Option State) → leb 8 (class_of y) ≡ valid (or_invalid y)

@@ -1,6 +1,6 @@
 -- The holders' answers on the bus, in bytes: one entry from its port's own part of the tables, and the ports of a mask one after the other.
 -- Assumes nothing.
-use Prim.Native.Nat.{ℕ, zero, suc, ◌+◌, ◌*◌, ◌-◌, ◌/◌, ◌%◌, ◌^◌, ◌<◌, ◌≤◌}
+use Prim.Native.Nat.{ℕ, zero, suc, ◌+◌, ◌*◌, ◌-◌, ◌/◌, ◌^◌, ◌<◌, ◌≤◌}
 use mathlib.Core.Path.{◌≡◌, refl, sym, ap, ◌∙◌}
 use mathlib.Core.Bool.{Bool, true, false, cond, ◌&&◌, not, false≢true}
 use mathlib.Core.List.{List, [], ◌∷◌, ◌++◌, append-nil}
@@ -17,11 +17,9 @@ use borrow.Author.Rules.{part_to_end}
 use Rattle.words.proofs.Bools.{Is, by_bool, not_is}
 use Rattle.protocol.specs.declared.rules.Bus.{Bus}
 use Rattle.protocol.specs.declared.rules.Bus.TheVariants.{Quiet, Share, Update, Invalidate, ShareOwned}
-use Rattle.protocol.specs.State.{state_of, or_invalid}
-use Rattle.protocol.specs.Rules.{updates, is_quiet}
-use Rattle.protocol.specs.Coded.{nibble_at, snoop_row}
+use Rattle.protocol.specs.State.{code, state_of, or_invalid}
+use Rattle.protocol.specs.Rules.{snooped, updates, is_quiet}
 use Rattle.protocol.proofs.States.{code-state_of}
-use Rattle.protocol.proofs.Rows.{snooped_is}
 use Rattle.protocol.proofs.Kept.{quiet_same, quiet_keeps}
 use Rattle.endian.specs.Little.{numbers, bytes_of}
 use Rattle.endian.proofs.Little.{set-numbers}
@@ -31,12 +29,11 @@ use Rattle.model.specs.Tables.{Model, seen, word_at, holds}
 use Rattle.model.specs.Step.{put_below, byte_answered, word_answered}
 use Rattle.model.proofs.Entries.{put_below-other, entry_lt, entry_inj, seen_tag, seen_here}
 use Rattle.ports.specs.declared.line.Line.{Line}
-use Rattle.bus.specs.declared.Command.{Command}
 use Rattle.ports.specs.Bytes.{tables_in, Filled}
 use Rattle.ports.specs.Entry.{Room}
 use Rattle.ports.specs.Line.{Placed}
 use Rattle.ports.specs.Masks.{ports_from, in_mask, OfHolders, AllStates}
-use Rattle.bus.specs.Bus.{command_of, states_answered, words_answered, answered}
+use Rattle.bus.specs.Bus.{states_answered, words_answered, answered}
 use Rattle.ports.proofs.Bytes.{model_eq, refilled}
 use Rattle.ports.proofs.Places.{some, few, number_is, index_is, room, Running, running_first, running_on, running_next, running_fits}
 use Rattle.model.proofs.Puts.{put_id}
@@ -69,23 +66,23 @@ part_sets a j xs vs h =
     ∙ behind a j xs vs
 
 -- A holder's answer from its own part is its answer in the whole.
-module _ {g h d : List ℕ} (c : Command) (w from index : ℕ) (room : Room g h d (from + index)) where
+module _ {g h d : List ℕ} (b : Bus) (w from index : ℕ) (room : Room g h d (from + index)) where
   pub tags_part : {g' : List ℕ} → g' ≡ mid_of (4 * from) (length g - 4 * from) g → put_mid (4 * from) (length g - 4 * from) g g' ≡ g
   tags_part e = rw e (put_same (4 * from) (length g - 4 * from) g)
 
-  pub states_part : {h' : List ℕ} → h' ≡ states_answered c index (mid_of from (length h - from) h)
-      → put_mid from (length h - from) h h' ≡ states_answered c (from + index) h
+  pub states_part : {h' : List ℕ} → h' ≡ states_answered b index (mid_of from (length h - from) h)
+      → put_mid from (length h - from) h h' ≡ states_answered b (from + index) h
   unfolding states_answered
   states_part e = rw e (part_set from index h (rw (part_get from index h)) room.in_states)
 
-  pub words_part_lem : {d' : List ℕ} → d' ≡ words_answered c w index (mid_of (8 * from) (length d - 8 * from) d)
-      → put_mid (8 * from) (length d - 8 * from) d d' ≡ words_answered c w (from + index) d
+  pub words_part_lem : {d' : List ℕ} → d' ≡ words_answered b w index (mid_of (8 * from) (length d - 8 * from) d)
+      → put_mid (8 * from) (length d - 8 * from) d d' ≡ words_answered b w (from + index) d
   unfolding words_answered
   words_part_lem e =
       let at_k : 8 * from + 8 * index ≡ 8 * (from + index) = omega arith in
-      rw e (by_bool c.hands
+      rw e (by_bool (updates b)
       (λ y. rw y (part_sets (8 * from) (8 * index) d (bytes_of 8 w) (omega (arith, room.in_words)) ∙ ap (λ (n : ℕ). sets d n (bytes_of 8 w)) at_k))
-      (λ y. rw (not-true c.hands y) (put_same (8 * from) (length d - 8 * from) d)))
+      (λ y. rw (not-true (updates b) y) (put_same (8 * from) (length d - 8 * from) d)))
 
 -- The tables after the first p ports have answered.
 module _ (s : Shape) (pos : zero < s.sets) (t : Model) (a : ℕ) (asked : ℕ → Bool) (b : Bus) (w : ℕ) where
@@ -235,9 +232,9 @@ module _ {l : Line} (v : Placed l) {g₀ h₀ d₀ : List ℕ} (bus : Bus) (w as
       state_there = seen_here s t₀ a (p + z) (seen_tag s t₀ a (p + z) held)
 
       -- It answers.
-      byte_is : nibble_at (snoop_row bus) (get_or h (entry_of s a (p + z)) 0 % 16) ≡ byte_answered s t₀ a (in_mask asked) bus (p + z)
+      byte_is : code (snooped bus (or_invalid (state_of (get_or h (entry_of s a (p + z)) 0)))) ≡ byte_answered s t₀ a (in_mask asked) bus (p + z)
       unfolding byte_answered
-      byte_is = rw (byte_there, first.passes, state_there) (snooped_is bus (get_or h₀ (entry_of s a (p + z)) 0) (fine (p + z) next_below) refl refl)
+      byte_is = rw (byte_there, first.passes, state_there)
 
       word_is : cond (updates bus) w (get_or (numbers 8 (entries s) d) (entry_of s a (p + z)) 0)
           ≡ word_answered s t₀ a (in_mask asked) bus w (p + z)
@@ -269,12 +266,11 @@ module _ {l : Line} (v : Placed l) {g₀ h₀ d₀ : List ℕ} (bus : Bus) (w as
         pub next_room : Room g h d k
         next_room = rw at_k (room u.filled in_k)
 
-        now_answered : w < 2 ^ 64 → {g' h' d' : List ℕ} {c : Command} → c ≡ command_of bus → g' ≡ g → h' ≡ states_answered c k h
-            → d' ≡ words_answered c w k d
+        now_answered : w < 2 ^ 64 → {g' h' d' : List ℕ} → g' ≡ g → h' ≡ states_answered bus k h → d' ≡ words_answered bus w k d
             → tables_in s g' h' d' ≡ after (suc (p + z))
-        unfolding tables_in answered put_below states_answered words_answered command_of
-        now_answered fits ec eg eh ed =
-            rw (eg, eh, ed, ec, at_k)
+        unfolding tables_in answered put_below states_answered words_answered
+        now_answered fits eg eh ed =
+            rw (eg, eh, ed, at_k)
             (model_eq refl (ap (λ (t : Model). t.tags) reached)
             (ap (set h (entry_of s a (p + z))) byte_is ∙ ap (λ (t : Model). set t.states (entry_of s a (p + z))
             (byte_answered s t₀ a (in_mask asked) bus (p + z))) reached)
@@ -282,10 +278,9 @@ module _ {l : Line} (v : Placed l) {g₀ h₀ d₀ : List ℕ} (bus : Bus) (w as
             ∙ ap (λ (t : Model). set t.words (entry_of s a (p + z)) (word_answered s t₀ a (in_mask asked) bus w (p + z))) reached))
 
         pub telling_more : w < 2 ^ 64 → {g' h' d' : List ℕ} → length g' ≡ length g → length h' ≡ length h → length d' ≡ length d
-            → {c : Command} → c ≡ command_of bus
-            → (g' ≡ g) × ((h' ≡ states_answered c k h) × (d' ≡ words_answered c w k d))
+            → (g' ≡ g) × ((h' ≡ states_answered bus k h) × (d' ≡ words_answered bus w k d))
             → Telling l bus w asked g₀ h₀ d₀ g' h' d' (rest / 2 ^ z / 2) (x + s.sets)
-        telling_more fits {g'} {h'} {d'} eg eh ed ec e =
+        telling_more fits {g'} {h'} {d'} eg eh ed e =
             let n : ℕ = u.count - z - 1 in
             let m : rest / 2 ^ z ≡ ports_from test (p + z) (suc n) = ap (λ (x : ℕ). x / 2 ^ z) u.mask ∙ mask_drop test p z (suc n)
             (omega (arith, first.below)) refl in
@@ -293,7 +288,7 @@ module _ {l : Line} (v : Placed l) {g₀ h₀ d₀ : List ℕ} (bus : Bus) (w as
               port = p + z + 1;
               at = running_next v here;
               filled = refilled u.filled eg eh ed;
-              now = now_answered fits ec e.0 e.1.0 e.1.1 ∙ ap after (sym (add-one (p + z)));
+              now = now_answered fits e.0 e.1.0 e.1.1 ∙ ap after (sym (add-one (p + z)));
               count = n;
               all = omega (arith, u.all, first.below);
               mask = ap (λ (x : ℕ). x / 2) m ∙ mask_half test (p + z) n ∙ ap (λ (x : ℕ). ports_from test x n) (sym (add-one (p + z)));

@@ -6,42 +6,25 @@ ghost use Rattle.ports.specs.Bytes.{tables_in, Filled};
 ghost use Rattle.ports.specs.Entry.{Room};
 ghost use Rattle.ports.specs.Line.{Placed};
 ghost use Rattle.ports.specs.Masks.{in_mask, OfHolders, AllStates};
-ghost use Rattle.bus.specs.Bus.{command_of, states_answered, words_answered, answered};
+ghost use Rattle.bus.specs.Bus.{states_answered, words_answered, answered};
 
 use ports::line::Line;
 use ports::{entry, mask};
-use protocol::rules;
-use protocol::rules::Bus;
-
-// A bus command as the ports hear it: its row of the snoop table, and whether it hands the new word to the holders.
-#[derive(Clone, Copy)]
-pub struct Command {
-    pub row: u64,
-    pub hands: bool,
-}
-
-#[tactic(auto, unfolding(crate::specs::Bus::command_of))]
-fn command_of(bus: Bus) -> Command
-    ensures { result ≡ command_of bus }
-{
-    Command {
-        row: rules::snoop_row(bus),
-        hands: bus.hands_word(),
-    }
-}
+use protocol::rules::{self, Bus};
+use protocol::state;
 
 // A holder's answer, from its own part of the tables, at the line's index there; w is the line's new word. No tag is read or changed: who is
 // asked is said by a mask.
 #[tactic(auto, unfolding(crate::specs::Bus::states_answered, crate::specs::Bus::words_answered))]
-fn answer(tags: &mut [u8], states: &mut [u8], words: &mut [u8], index: usize, c: Command, w: u64)
+fn answer(tags: &mut [u8], states: &mut [u8], words: &mut [u8], index: usize, bus: Bus, w: u64)
     requires { Room tags.old states.old words.old index }
     ensures tags_unchanged { tags.new ≡ tags.old }
-    ensures states_after { states.new ≡ states_answered c index states.old }
-    ensures words_after { words.new ≡ words_answered c w index words.old }
+    ensures states_after { states.new ≡ states_answered bus index states.old }
+    ensures words_after { words.new ≡ words_answered bus w index words.old }
 {
-    let next = rules::nibble(c.row, states[index]);
-    states[index] = next;
-    if c.hands {
+    let next = rules::snooped(bus, state::or_invalid(states[index]));
+    states[index] = u8::from(next);
+    if bus.hands_word() {
         entry::put_word(words, index, w);
     }
 }
@@ -53,13 +36,13 @@ fn answer_from(
     words: &mut [u8],
     from: usize,
     index: usize,
-    c: Command,
+    bus: Bus,
     w: u64,
 )
     requires { Room tags.old states.old words.old (from + index) }
     ensures tags_unchanged { tags.new ≡ tags.old }
-    ensures states_after { states.new ≡ states_answered c (from + index) states.old }
-    ensures words_after { words.new ≡ words_answered c w (from + index) words.old }
+    ensures states_after { states.new ≡ states_answered bus (from + index) states.old }
+    ensures words_after { words.new ≡ words_answered bus w (from + index) words.old }
 {
     let tags_from = 4 * from;
     let words_from = 8 * from;
@@ -68,7 +51,7 @@ fn answer_from(
         &mut states[from..],
         &mut words[words_from..],
         index,
-        c,
+        bus,
         w,
     );
 }
@@ -104,7 +87,6 @@ fn broadcast(
         ≡ answered line.shape (tables_in line.shape tags.old states.old words.old) line.number
         (in_mask asked) bus w line.shape.ports }
 {
-    let c = command_of(bus);
     let sets = line.shape.sets;
     let mut rest = asked;
     let mut k = line.place.index;
@@ -113,7 +95,7 @@ fn broadcast(
         rest = (rest >> skipped) / 2;
         k = passed(k, sets, skipped);
         let from = k - line.place.index;
-        answer_from(tags, states, words, from, line.place.index, c, w);
+        answer_from(tags, states, words, from, line.place.index, bus, w);
         k += sets;
     }
 }

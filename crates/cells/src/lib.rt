@@ -2,13 +2,12 @@
 #![tactic(auto, unfolding(rows::specs::Cells::row_of, rows::specs::Cells::reads_in, rows::specs::Cells::writes_in, rows::specs::Cases::audited, protocol::specs::Rules::flush_rule))]
 
 ghost use Rattle.std.specs.Prelude.{◌≡◌, ◌↔◌, true, IsSome, IfSome};
-ghost use Rattle.protocol.specs.Rules.{rule, snooped};
-ghost use Rattle.protocol.specs.Coded.{mode_at};
+ghost use Rattle.protocol.specs.Coded.{bus_at, mode_at};
 ghost use Rattle.rows.specs.Cases.{outcome_in_turn, state_in_turn, arises, held_through, printed, own_audited, snoop_audited, cases, own_at, case_at};
 ghost use Rattle.rows.specs.Cells.{source_of, blank_row, row_of};
 ghost use Rattle.rows.specs.Numbers.{table_number, source_number, cells};
 
-use protocol::rules::{self, Bus, Rule};
+use protocol::rules::{self, Bus};
 use protocol::state::{Mode, State};
 use rows::{Case, Row, Source, Table};
 use words::access::Outcome;
@@ -34,6 +33,22 @@ fn mode_at(n: u8) -> Mode
     match n {
         0 => Mode::Through,
         _ => Mode::Back,
+    }
+}
+
+// The command of a number.
+#[tactic(auto, unfolding(protocol::specs::Coded::bus_at))]
+fn bus_at(n: u8) -> Bus
+    ensures { result ≡ bus_at n }
+{
+    match n {
+        0 => Bus::Quiet,
+        1 => Bus::Invalidate,
+        2 => Bus::ShareOwned,
+        3 => Bus::Share(Mode::Through),
+        4 => Bus::Share(Mode::Back),
+        5 => Bus::Update(Mode::Through),
+        _ => Bus::Update(Mode::Back),
     }
 }
 
@@ -75,7 +90,7 @@ pub fn case_at(k: u8) -> Case
     match k {
         0..168 => own_at(k),
         168..210 => Case::Snoop {
-            hears: rules::bus_at((k - 168) / 6),
+            hears: bus_at((k - 168) / 6),
             state: state_at((k - 168) % 6 + 1),
         },
         210..217 => Case::TakeOver {
@@ -158,27 +173,6 @@ fn source_of(hit: bool, dirty: bool) -> Source
     }
 }
 
-// The rule for a port that sees the line in state s, from its numbers.
-#[tactic(auto, using(crate::proofs::Parts::codes), unfolding(protocol::specs::Coded::coded))]
-fn own_rule(k: Outcome, m: Mode, shared: bool, dirty: bool, s: State) -> Rule
-    ensures { result ≡ rule k m shared dirty s }
-{
-    let r = rules::own_rule(k, m, shared, dirty, u8::from(s));
-    Rule {
-        own: State::try_from(r.own).unwrap(),
-        bus: r.bus,
-        stores: r.stores,
-    }
-}
-
-// What the state of a holder becomes when it hears the command.
-#[tactic(auto, using(crate::proofs::Parts::codes))]
-fn snooped(bus: Bus, s: State) -> State
-    ensures { result ≡ snooped bus s }
-{
-    State::try_from(rules::snooped_byte(bus, u8::from(s))).unwrap()
-}
-
 // A row of a table with no cell filled in, with no memory access, and met on tables that pass the audit.
 fn blank_row(table: Table) -> Row
     ensures { cells result ≡ blank_row (table_number table) }
@@ -206,7 +200,7 @@ fn own_row(outcome: Outcome, mode: Mode, shared: bool, dirty: bool, s: State) ->
     ensures { cells result ≡ row_of (Case.Own outcome mode shared dirty s) }
 {
     let hit = s.is_valid();
-    let rule = own_rule(outcome, mode, shared, dirty, s);
+    let rule = rules::own_rule(outcome, mode, shared, dirty, s);
     Row {
         access: Some(outcome),
         mode: Some(mode),
@@ -230,7 +224,7 @@ fn snoop_row(hears: Bus, s: State) -> Row
     Row {
         hears: Some(hears),
         state: Some(s),
-        next: Some(snooped(hears, s)),
+        next: Some(rules::snooped(hears, s)),
         takes: Some(hears.hands_word()),
         audited: s.is_valid() && is_snoop_audited(hears, s),
         ..blank_row(Table::Snoop)

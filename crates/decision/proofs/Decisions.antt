@@ -1,7 +1,7 @@
 -- A decision as the code makes it is `decided`. Assumes nothing.
 use Prim.Native.Nat.{ℕ, ◌+◌, ◌*◌, ◌<◌}
-use mathlib.Core.Path.{◌≡◌, refl, ap, sym, ◌∙◌}
-use mathlib.Core.Bool.{Bool, true, false, cond, ◌&&◌, not}
+use mathlib.Core.Path.{◌≡◌, ap, sym, ◌∙◌}
+use mathlib.Core.Bool.{Bool, cond, ◌&&◌, not}
 use mathlib.Core.List.{List}
 use lib.ListN.{get_or}
 use lib.Dec.{eqb}
@@ -16,15 +16,15 @@ use Rattle.words.specs.Access.{effect_at}
 use Rattle.words.proofs.Bools.{by_bool}
 use Rattle.protocol.specs.declared.state.Mode.{Mode}
 use Rattle.protocol.specs.declared.state.State.TheVariants.{I}
-use Rattle.protocol.specs.declared.rules.Coded.{Coded}
-use Rattle.protocol.specs.State.{code, state_of, or_invalid, is_state, owner}
+use Rattle.protocol.specs.declared.state.State.{State}
+use Rattle.protocol.specs.declared.rules.Rule.{Rule}
+use Rattle.protocol.specs.State.{code, state_of, or_invalid, owner}
 use Rattle.protocol.specs.Rules.{rule}
-use Rattle.protocol.specs.Coded.{coded}
 use Rattle.protocol.proofs.States.{not_valid}
 use Rattle.shape.specs.declared.Shape.{Shape}
 use Rattle.model.specs.declared.answer.Answer.{Answer}
 use Rattle.shape.specs.Shape.{entry_number, entry_of}
-use Rattle.model.specs.Tables.{Model, state_at, home_at, seen, word_at, holds, dirty, column_sound}
+use Rattle.model.specs.Tables.{Model, state_at, home_at, seen, word_at, holds, dirty}
 use Rattle.model.specs.Step.{accepted, word_supplied, shared, word_found, fetches, evicts_owner, access_rule}
 use Rattle.model.specs.Step.{accessed}
 use Rattle.model.proofs.Entries.{seen_tag, seen_here, home_is}
@@ -36,19 +36,12 @@ use Rattle.ports.specs.Line.{Placed}
 use Rattle.ports.specs.Masks.{ports_from}
 use Rattle.ports.proofs.Masks.{mask_any}
 use Rattle.ports.proofs.Places.{some, index_is, tag_is, number_is}
-use Rattle.ports.proofs.Surveys.{sound_states}
 use Rattle.decision.specs.declared.Decision.{Decision}
 use Rattle.decision.specs.Decision.{other, decided}
 
-pub chosen_state : (h : Bool) (b : ℕ) {x y : ℕ} → y ≡ code I → x ≡ cond h b y → is_state (state_of b) ≡ true → is_state (state_of x) ≡ true
-unfolding state_of code
-chosen_state true b ey e s = rw e s
-chosen_state false b ey e s = rw (e, ey) refl
-
--- The own entry's state, from its byte on a hit and the byte of I on a miss.
+-- The state that a port sees: its own entry's on a hit, and I on a miss.
 hit_state : (s : Shape) (t : Model) (i a : ℕ)
-    → or_invalid (state_of (cond (holds s t a i) (get_or t.states (entry_of s a i) 0) (code I))) ≡ seen s t a i
-unfolding state_of code
+    → cond (holds s t a i) (or_invalid (state_of (get_or t.states (entry_of s a i) 0))) I ≡ seen s t a i
 hit_state s t i a =
     by_bool (holds s t a i) (λ v. rw v (sym (seen_here s t a i (seen_tag s t a i v))))
     (λ v. rw (not-true (holds s t a i) v) (sym (not_valid (seen s t a i) v)))
@@ -72,11 +65,6 @@ module _ {l : Line} (v : Placed l) (g h d : List ℕ) (i : ℕ) (port : i < l.sh
     entry_own : e ≡ entry_at t' (entry_of s a i)
     entry_own = ee ∙ ap (entry_at t') (ek ∙ number_is v i)
 
-    -- In a sound column its byte is a state.
-    pub entry_state : column_sound s t' a ≡ true → is_state (state_of e.byte) ≡ true
-    unfolding entry_at
-    entry_state u = rw entry_own (sound_states s t' a u i port)
-
     home_own : {home : ℕ} → home ≡ e.tag * s.sets + l.place.index → home ≡ home_at s t' (entry_of s a i)
     unfolding entry_at
     home_own eh = eh ∙ rw (entry_own, index_is v) (sym (home_is s (some v) t' a i))
@@ -91,22 +79,24 @@ module _ {l : Line} (v : Placed l) (g h d : List ℕ) (i : ℕ) (port : i < l.sh
       pub decide_done : (m₀ : List ℕ) (acc : Access) (m : Mode) → {hit : Bool} → hit ≡ holds s t' a i → {others : ℕ}
           → others ≡ ports_from (other s t' i a) 0 s.ports → {dirt : Bool} → dirt ≡ dirty s t' a
           → {w : ℕ} → w ≡ cond hit e.word (word_supplied s (model_in s (bytes m₀ g h d)) a)
-          → {k : Effect} → k ≡ effect_at acc w → {x y : ℕ} → y ≡ code I → x ≡ cond hit e.byte y
-          → {r : Coded} → r ≡ coded (rule k.outcome m (not (eqb others 0)) dirt (or_invalid (state_of x)))
+          → {k : Effect} → k ≡ effect_at acc w
+          → {x : State} → x ≡ cond hit (or_invalid (state_of e.byte)) I
+          → {r : Rule} → r ≡ rule k.outcome m (not (eqb others 0)) dirt x
           → {home : ℕ} → home ≡ e.tag * s.sets + l.place.index
           → {n : Answer} → n ≡ accepted k.value (bit k.swapped) (bit (not hit && not dirt)) (bit (not hit && o) + bit r.stores)
           → {x₁ x₂ : Option Store} → x₁ ≡ then_some (not hit && o) (record { line = home; word = e.word })
           → x₂ ≡ then_some r.stores (record { line = a; word = k.word })
+          → {own : ℕ} → own ≡ code r.own
           → ◌≡◌ {A = Decision} (record {
-            entry = record { tag = l.place.tag; byte = r.own; word = k.word };
+            entry = record { tag = l.place.tag; byte = own; word = k.word };
             others = others;
             bus = r.bus;
             evicted = x₁;
             stored = x₂;
             answer = n;
           }) (decided s (model_in s (bytes m₀ g h d)) i a acc m)
-      unfolding entry_at coded decided accessed word_found fetches evicts_owner shared dirty access_rule word_at seen tables_in model_in
-      decide_done m₀ acc m hh {others} ho hd {w} hw {k} hk {x} hy hx {r} hr {home} hm hn h₁ h₂ =
+      unfolding entry_at decided accessed word_found fetches evicts_owner shared dirty access_rule word_at seen tables_in model_in
+      decide_done m₀ acc m hh {others} ho hd {w} hw {k} hk {x} hx {r} hr {home} hm hn h₁ h₂ {own} hb =
           let es : not (eqb others 0) ≡ shared s t' i a = rw ho (shared_any s t' i a) in
-          let ex : or_invalid (state_of x) ≡ seen s t' a i = rw (hx, hy, hh, entry_own) (hit_state s t' i a) in
-          rw (h₁, h₂, hn, hr, hk, hw, es, ho, hd, ex, hh, owner_own, home_own hm, tag_is v, entry_own)
+          let ex : x ≡ seen s t' a i = rw (hx, hh, entry_own) (hit_state s t' i a) in
+          rw (h₁, h₂, hn, hb, hr, hk, hw, es, ho, hd, ex, hh, owner_own, home_own hm, tag_is v, entry_own)

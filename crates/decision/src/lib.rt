@@ -4,6 +4,7 @@
 pub mod supply;
 
 ghost use Rattle.std.specs.Prelude.{◌≡◌, true, cond, ◌<◌};
+ghost use Rattle.protocol.specs.State.{state_of, or_invalid};
 ghost use Rattle.model.specs.Tables.{owns, column_sound};
 ghost use Rattle.model.specs.Step.{word_supplied};
 ghost use Rattle.ports.specs.Bytes.{bytes, model_in, tables_in, Fitting};
@@ -16,11 +17,9 @@ use ports::entry;
 use ports::entry::Entry;
 use ports::line::Line;
 use ports::survey::Masks;
-use protocol::rules::Bus;
-use protocol::state::{Mode, State};
-use protocol::{rules, state};
-use words::access::Access;
-use words::{access, choose};
+use protocol::rules::{self, Bus};
+use protocol::state::{self, Mode, State};
+use words::access::{self, Access};
 
 // A word that is stored in main memory, and its line.
 #[derive(Clone, Copy)]
@@ -65,6 +64,13 @@ fn find_word(
     supply::supplied_word(memory, tags, states, words, line, owners)
 }
 
+// The state that a port sees: its own entry's, from the byte, on a hit, else I.
+fn find_state(hit: bool, byte: u8) -> State
+    ensures { result ≡ cond hit (or_invalid (state_of byte)) State.I }
+{
+    if hit { state::or_invalid(byte) } else { State::I }
+}
+
 // What an access by port i comes to, from what the ports say of the line; every entry is sound.
 pub fn decide(
     memory: &[u8],
@@ -97,15 +103,15 @@ pub fn decide(
     let found = find_word(memory, tags, states, words, line, hit, e.word, said.owners);
     let effect = access::effect_at(acc, found);
     let outcome = effect.outcome;
-    let byte = choose::choose(hit, e.byte, u8::from(State::I));
-    let r = rules::own_rule(outcome, m, others != 0, dirty, byte);
+    let seen = find_state(hit, e.byte);
+    let r = rules::own_rule(outcome, m, others != 0, dirty, seen);
     let fetches = !hit & !dirty;
     let evicts = !hit & state::is_owner(e.byte);
     let home = entry::home_of(e.tag, sets, index);
     Decision {
         entry: Entry {
             tag: line.place.tag,
-            byte: r.own,
+            byte: u8::from(r.own),
             word: effect.word,
         },
         others,

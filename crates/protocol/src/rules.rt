@@ -1,14 +1,11 @@
 // Bus commands and the two rule tables: the port's own, and the snoop table of the other holders.
-ghost use Rattle.std.specs.Prelude.{◌≡◌, true, ◌<◌, ◌%◌};
-ghost use Rattle.words.specs.Bools.{bit};
-ghost use Rattle.words.specs.Access.{writes};
-ghost use Rattle.protocol.specs.State.{code, state_of, or_invalid, is_state};
-ghost use Rattle.protocol.specs.Rules.{rule, snooped, is_quiet, updates};
-ghost use Rattle.protocol.specs.Coded.{bus_at, coded, nibble_at, mode_number, own_row_at, rewrites, taken_off, snoop_row};
+ghost use Rattle.std.specs.Prelude.{◌≡◌};
+ghost use Rattle.protocol.specs.State.{mode_of};
+ghost use Rattle.protocol.specs.Rules.{sharing, sharing_owned, snooped, is_quiet, updates, ruled, alone, among};
+ghost use Rattle.protocol.specs.Rules.{turned, read_hit, write_hit, rewrite_hit, hit, write_miss, miss, rule};
 
 use crate::state::{Mode, State};
 use words::access::Outcome;
-use words::choose;
 
 // What a port says to the other holders, or a device to all: nothing; become S in a mode; that, and take the new word; become I; become write-back S,
 // but an owner stays the owner, as O.
@@ -46,122 +43,173 @@ pub struct Rule {
     pub stores: bool,
 }
 
-// The same with the state's byte.
-#[derive(Clone, Copy, Debug, PartialEq, Eq)]
-pub struct Coded {
-    pub own: u8,
-    pub bus: Bus,
-    pub stores: bool,
-}
-
-// A row of the own table: two words with a nibble for each state byte that the port may see, byte 0's the lowest. The first has the
-// next state's byte, the second the number of the bus command, plus 8 where memory gets the word.
-#[derive(Clone, Copy, Debug, PartialEq, Eq)]
-pub struct Row(pub u64, pub u64);
-
-fn own_row(n: u8) -> Row
-    requires { n < 16 }
-    ensures { result ≡ own_row_at n }
+// A holder becomes S in the mode m.
+fn sharing(m: Mode, s: State) -> State
+    ensures { result ≡ sharing m s }
 {
-    match n {
-        0 => Row(0x2121000000212, 0x8303000000003),
-        1 => Row(0x2121000000212, 0x8B0B00000000B),
-        2 => Row(0x2121000000211, 0x8303000000003),
-        3 => Row(0x2121000000211, 0x8B0B00000000B),
-        4 => Row(0xCBA9000000A9A, 0x0000000000042),
-        5 => Row(0xCBA9000000A9A, 0x0000000000042),
-        6 => Row(0xCBA9000000A99, 0x0000000000042),
-        7 => Row(0xCBA9000000A99, 0x0000000000042),
-        8 => Row(0x2222000000222, 0x8D8D0000008D9),
-        9 => Row(0x2222000000222, 0x8D8D0000008D9),
-        10 => Row(0x2121000000212, 0x8D8D0000008D9),
-        11 => Row(0x2121000000212, 0x8D8D0000008D9),
-        12 => Row(0xCCCC000000CCC, 0x0606000000061),
-        13 => Row(0xCCCC000000CCC, 0x0606000000061),
-        14 => Row(0xCBCB000000CBC, 0x0606000000061),
-        _ => Row(0xCBCB000000CBC, 0x0606000000061),
+    match s {
+        State::I => State::I,
+        State::S(_) | State::E(_) | State::O | State::M => State::S(m),
     }
 }
 
-// The command of a number, as the rows have them.
-#[tactic(auto, unfolding(crate::specs::Coded::bus_at))]
-pub fn bus_at(n: u8) -> Bus
-    ensures { result ≡ bus_at n }
+// A holder becomes write-back S, but an owner stays the owner, as O.
+fn sharing_owned(s: State) -> State
+    ensures { result ≡ sharing_owned s }
 {
-    match n {
-        0 => Bus::Quiet,
-        1 => Bus::Invalidate,
-        2 => Bus::ShareOwned,
-        3 => Bus::Share(Mode::Through),
-        4 => Bus::Share(Mode::Back),
-        5 => Bus::Update(Mode::Through),
-        _ => Bus::Update(Mode::Back),
+    match s {
+        State::I => State::I,
+        State::S(_) | State::E(_) => State::S(Mode::Back),
+        State::O | State::M => State::O,
     }
 }
 
-// The snoop table: for each bus command a row with the byte that each state byte becomes.
-#[tactic(auto, unfolding(crate::specs::Coded::snoop_row, crate::specs::Coded::packed, crate::specs::Coded::pack, crate::specs::Rules::snooped, crate::specs::State::code))]
-pub fn snoop_row(bus: Bus) -> u64
-    ensures { result ≡ snoop_row bus }
+// The snoop table: what a holder's state becomes at a bus command.
+#[tactic(auto, unfolding(crate::specs::Rules::snooped))]
+pub fn snooped(bus: Bus, s: State) -> State
+    ensures { result ≡ snooped bus s }
 {
     match bus {
-        Bus::Quiet => 0xCBA9000000210,
-        Bus::Invalidate => 0x0000000000000,
-        Bus::ShareOwned => 0xBB99000000990,
-        Bus::Share(Mode::Through) | Bus::Update(Mode::Through) => 0x1111000000110,
-        Bus::Share(Mode::Back) | Bus::Update(Mode::Back) => 0x9999000000990,
+        Bus::Quiet => s,
+        Bus::Share(m) | Bus::Update(m) => sharing(m, s),
+        Bus::Invalidate => State::I,
+        Bus::ShareOwned => sharing_owned(s),
     }
 }
 
-// Nibble s of a row.
-#[tactic(auto, unfolding(crate::specs::Coded::nibble_at))]
-pub fn nibble(row: u64, s: u8) -> u8
-    ensures { (result ≡ nibble_at row (s % 16)) × (result < 16) }
+fn ruled(own: State, bus: Bus, stores: bool) -> Rule
+    ensures { result ≡ ruled own bus stores }
 {
-    ((row >> (4 * (s % 16))) % 16) as u8
+    Rule { own, bus, stores }
 }
 
-fn does_write(k: Outcome) -> bool
-    ensures { result ≡ writes k }
+// The only holder of a word that memory may lack: M; or, where memory gets it too, write-through E.
+fn alone(m: Mode) -> State
+    ensures { result ≡ alone m }
 {
-    matches!(k, Outcome::Writes | Outcome::Rewrites)
-}
-
-fn does_rewrite(k: Outcome) -> bool
-    ensures { result ≡ rewrites k }
-{
-    matches!(k, Outcome::Rewrites)
-}
-
-// What a rewrite takes off the next states of a write's row: in write back, where the port sees E, 2, which makes write-back E of M.
-fn taken_off(k: Outcome, m: Mode) -> u64
-    ensures { result ≡ taken_off k m }
-{
-    choose::choose(does_rewrite(k) & m.is_back(), 0x0020000000200, 0)
-}
-
-// The rule for a port that sees the line in the state of byte s, where `shared` says that another port holds it and `dirty` that some
-// port owns it. A rewrite has the rows of a write, less what is taken off (docs/DECISIONS.md).
-pub fn own_rule(k: Outcome, m: Mode, shared: bool, dirty: bool, s: u8) -> Coded
-    requires { is_state (state_of s) ≡ true }
-    ensures { result ≡ coded (rule k m shared dirty (or_invalid (state_of s))) }
-{
-    let n = ((u8::from(does_write(k)) * 2 + u8::from(m.is_back())) * 2 + u8::from(shared)) * 2
-        + u8::from(dirty);
-    let row = own_row(n);
-    let act = nibble(row.1, s);
-    Coded {
-        own: nibble(row.0 - taken_off(k, m), s),
-        bus: bus_at(act % 8),
-        stores: 8 <= act,
+    match m {
+        Mode::Back => State::M,
+        Mode::Through => State::E(Mode::Through),
     }
 }
 
-// The byte that a holder's byte s becomes at a bus command.
-#[tactic(auto, using(crate::proofs::Rows::snooped_is))]
-pub fn snooped_byte(bus: Bus, s: u8) -> u8
-    requires { is_state (state_of s) ≡ true }
-    ensures { result ≡ code (snooped bus (or_invalid (state_of s))) }
+// The port whose new word the other holders have too: O, or write-through S where memory has it.
+fn among(m: Mode) -> State
+    ensures { result ≡ among m }
 {
-    nibble(snoop_row(bus), s)
+    match m {
+        Mode::Back => State::O,
+        Mode::Through => State::S(Mode::Through),
+    }
+}
+
+// The mode of a state; O and M are write back. I has none: this is asked of holders only.
+fn mode_of(s: State) -> Mode
+    ensures { result ≡ mode_of s }
+{
+    match s {
+        State::I => Mode::Through,
+        State::S(m) | State::E(m) => m,
+        State::O | State::M => Mode::Back,
+    }
+}
+
+// Below, m is the mode of the access, `shared` says that another port holds the line, and `dirty` that some port owns it, the port itself
+// included.
+
+// A read hit, or a swap hit that fails, of a line in another mode than m. (M is write back, so m is write through there.)
+fn turned(m: Mode, dirty: bool, s: State) -> Rule
+    ensures { result ≡ turned m dirty s }
+{
+    match s {
+        State::I => ruled(State::I, Bus::Quiet, false),
+        State::E(_) => ruled(State::E(m), Bus::Quiet, false),
+        State::M => ruled(State::E(Mode::Through), Bus::Quiet, true),
+        State::S(_) | State::O => ruled(State::S(m), Bus::Share(m), dirty & !m.is_back()),
+    }
+}
+
+// A read hit, or a swap hit that fails: where the mode is m already, nothing changes.
+fn read_hit(m: Mode, dirty: bool, s: State) -> Rule
+    ensures { result ≡ read_hit m dirty s }
+{
+    if mode_of(s) == m {
+        ruled(s, Bus::Quiet, false)
+    } else {
+        turned(m, dirty, s)
+    }
+}
+
+// A write hit, or a swap hit that succeeds.
+fn write_hit(m: Mode, shared: bool, s: State) -> Rule
+    ensures { result ≡ write_hit m shared s }
+{
+    let through = !m.is_back();
+    match s {
+        State::I => ruled(State::I, Bus::Quiet, false),
+        State::E(_) | State::M => ruled(alone(m), Bus::Quiet, through),
+        State::S(_) | State::O if shared => ruled(among(m), Bus::Update(m), through),
+        State::S(_) | State::O => ruled(alone(m), Bus::Update(m), through),
+    }
+}
+
+// A write hit, or a swap hit that succeeds, that leaves the word as it was (a silent store): E stays E, in the mode of the access; any other
+// state goes as where the word changes.
+fn rewrite_hit(m: Mode, shared: bool, s: State) -> Rule
+    ensures { result ≡ rewrite_hit m shared s }
+{
+    match s {
+        State::E(_) => ruled(State::E(m), Bus::Quiet, !m.is_back()),
+        State::I | State::S(_) | State::O | State::M => write_hit(m, shared, s),
+    }
+}
+
+fn hit(k: Outcome, m: Mode, shared: bool, dirty: bool, s: State) -> Rule
+    ensures { result ≡ hit k m shared dirty s }
+{
+    match k {
+        Outcome::Reads => read_hit(m, dirty, s),
+        Outcome::Writes => write_hit(m, shared, s),
+        Outcome::Rewrites => rewrite_hit(m, shared, s),
+    }
+}
+
+// A miss by a read, or a swap that fails.
+fn read_miss(m: Mode, shared: bool, dirty: bool) -> Rule
+    ensures { result ≡ miss Outcome.Reads m shared dirty }
+{
+    let own = if shared { State::S(m) } else { State::E(m) };
+    match m {
+        Mode::Back => ruled(own, Bus::ShareOwned, false),
+        Mode::Through => ruled(own, Bus::Share(m), dirty),
+    }
+}
+
+// A miss by a write, or a swap that succeeds, also where the word stays as it was.
+fn write_miss(m: Mode) -> Rule
+    ensures { result ≡ write_miss m }
+{
+    ruled(alone(m), Bus::Invalidate, !m.is_back())
+}
+
+// A miss. The word comes from an owner where the line is dirty, else from memory.
+fn miss(k: Outcome, m: Mode, shared: bool, dirty: bool) -> Rule
+    ensures { result ≡ miss k m shared dirty }
+{
+    match k {
+        Outcome::Reads => read_miss(m, shared, dirty),
+        Outcome::Writes | Outcome::Rewrites => write_miss(m),
+    }
+}
+
+// The port's own table: the rule for a port that sees the line in the state s, I where its entry is of another line.
+#[tactic(auto, unfolding(crate::specs::Rules::rule))]
+pub fn own_rule(k: Outcome, m: Mode, shared: bool, dirty: bool, s: State) -> Rule
+    ensures { result ≡ rule k m shared dirty s }
+{
+    if s.is_valid() {
+        hit(k, m, shared, dirty, s)
+    } else {
+        miss(k, m, shared, dirty)
+    }
 }

@@ -118,6 +118,13 @@ pub fn is_state(b: u8) -> bool
     State::try_from(b).is_ok()
 }
 
+// The state of a byte. A byte that is no state is read as I: a step refuses it first.
+pub fn or_invalid(b: u8) -> State
+    ensures { result ≡ or_invalid (state_of b) }
+{
+    State::try_from(b).unwrap_or(State::I)
+}
+
 // Not I. A byte that is no state counts as I here: a step refuses it first.
 pub fn is_valid(b: u8) -> bool
     ensures { result ≡ valid (or_invalid (state_of b)) }

@@ -8,7 +8,7 @@ use Rattle.protocol.specs.declared.state.State.{State}
 use Rattle.protocol.specs.declared.rules.Bus.{Bus}
 use Rattle.protocol.specs.declared.rules.Bus.TheVariants.{Invalidate}
 use Rattle.protocol.specs.Rules.{rule, updates}
-use Rattle.protocol.proofs.Rows.{bus_at_lem}
+use Rattle.protocol.proofs.Numbers.{bus_at_lem}
 use Rattle.rows.specs.Cases.{Case, own, snoop, take_over, flush, device_write, device_read, audited}
 use Rattle.rows.specs.Cells.{row_of}
 use Rattle.rows.specs.Orders.{says, sent}

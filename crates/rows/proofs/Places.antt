@@ -16,7 +16,7 @@ use Rattle.protocol.specs.declared.state.State.TheVariants.{I, S, E, O, M}
 use Rattle.protocol.specs.declared.rules.Bus.{Bus}
 use Rattle.protocol.specs.State.{valid}
 use Rattle.protocol.specs.Coded.{mode_number, mode_at, bus_number, bus_at}
-use Rattle.protocol.proofs.Rows.{bus_below, bus_at_lem}
+use Rattle.protocol.proofs.Numbers.{bus_below, bus_at_lem}
 use Rattle.protocol.proofs.States.{state_of-code}
 use Rattle.model.specs.Below.{all_below}
 use Rattle.model.proofs.Below.{below_all}

@@ -35,7 +35,7 @@ loop-rest-preserved c =
     let r = c.requires in let a = c.answer_from in
     telling_more r.placed _ _ _ r.filled r.all_states r.of_holders c.loop-rest.invariant c.loop-rest-test.true
     c.lowest_port-skipped.ensures c.passed-k.ensures (omega arith) a.auto.tags a.auto.states a.auto.words
-    c.command_of-c.ensures (a.ensures.tags_unchanged, (a.ensures.states_after, a.ensures.words_after))
+    (a.ensures.tags_unchanged, (a.ensures.states_after, a.ensures.words_after))
 
 pub returns : goal.returns
 returns c = search telling_done

@@ -1,9 +1,9 @@
 -- The decision, call by call. Assumes nothing.
-use Rattle.std.proofs.Common.{◌/◌, ◌%◌, ◌^◌, nat_eq, arith}
+use Rattle.std.proofs.Common.{arith}
 use Rattle.ports.proofs.Places.{few, index_below, sets_small}
 use Rattle.ports.proofs.Masks.{bit_away}
 use Rattle.ports.proofs.Surveys.{masks_holders, masks_owners, masks_hit, masks_dirty}
-use Rattle.decision.proofs.Decisions.{chosen_state, entry_state, decide_done}
+use Rattle.decision.proofs.Decisions.{decide_done}
 use Rattle.decision.proofs.decide.Goals as goal
 
 pub entry_number-at-requires-clause-there : goal.entry_number-at-requires-clause-there
@@ -18,13 +18,6 @@ overflow_shl-others c = omega (arith, few c.requires.placed)
 pub find_word-found-requires-clause-owners : goal.find_word-found-requires-clause-owners
 find_word-found-requires-clause-owners c = masks_owners _ _ _ c.requires.said
 
--- The byte chosen, the own entry's or that of I, is the code of a state.
-pub own_rule-r-requires : goal.own_rule-r-requires
-own_rule-r-requires c =
-    let r = c.requires in
-    chosen_state (nat_eq (c.args.said.holders / 2 ^ c.args.i % 2) 1) _ c.from.ensures c.choose-byte.ensures
-    (entry_state r.placed _ _ _ _ r.port c.entry_number-at.ensures.0 c.entry_at-e.ensures r.sound)
-
 pub home_of-home-requires : goal.home_of-home-requires
 home_of-home-requires c = sets_small c.requires.placed
 
@@ -35,5 +28,5 @@ returns c =
     decide_done r.placed _ _ _ _ r.port c.entry_number-at.ensures.0 c.entry_at-e.ensures
     c.is_owner.ensures _ _ _ (masks_hit _ _ _ p _ r.port)
     (bit_away _ _ _ (masks_holders _ _ _ p) r.port (few r.placed)).1 (masks_dirty _ _ _ p)
-    c.find_word-found.ensures c.effect_at-effect.ensures c.from.ensures c.choose-byte.ensures c.own_rule-r.ensures
-    c.home_of-home.ensures c.accept.ensures c.then_some.ensures c.then_some-2.ensures
+    c.find_word-found.ensures c.effect_at-effect.ensures c.find_state-seen.ensures c.own_rule-r.ensures
+    c.home_of-home.ensures c.accept.ensures c.then_some.ensures c.then_some-2.ensures c.from.ensures
