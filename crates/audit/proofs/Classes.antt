@@ -1,14 +1,21 @@
 -- The class of a state says what the state says: each part is one test, computed over the states. Assumes nothing.
+use Prim.Native.Nat.{ℕ, ◌<◌, ◌≤◌}
 use mathlib.Core.Path.{◌≡◌, refl}
+use mathlib.Core.Logic.{◌≢◌}
 use mathlib.Core.Bool.{Bool, true, false, cond, ◌&&◌, not, false≢true}
+use mathlib.Core.List.{List, [], ◌∷◌}
+use native.Mathlib.Omega.{arith}
 use lib.Dec.{eqb, leb}
-use Rattle.std.specs.Prelude.{Option, Some, None}
+use borrow.Author.Tests.{eqb-true, ne_eqb}
+use Rattle.std.specs.Prelude.{Option, Some, None, slice_index_or}
 use Rattle.protocol.specs.declared.state.State.{State}
 use Rattle.words.specs.Bools.{implies}
-use Rattle.protocol.specs.State.{is_state, or_invalid, valid, owner, exclusive, is_o, mode_of, same_mode}
+use Rattle.protocol.specs.State.{state_of, is_state, or_invalid, valid, owner, exclusive, is_o, mode_of, same_mode}
 use Rattle.words.proofs.Bools.{Is, both, mp, not_both}
 use Rattle.protocol.proofs.Finite.{for_states, at_state}
 use Rattle.protocol.proofs.States.{same_mode_lem}
+use Rattle.model.specs.Below.{all_below}
+use Rattle.model.proofs.Below.{below_all}
 use Rattle.audit.specs.Entries.{class_number, class_of, is_owner, compatible}
 
 abbrev same : Bool → Bool → Bool
@@ -22,6 +29,30 @@ same_eq false false h = refl
 
 by_state : (f g : State → Bool) → Is (for_states (λ s. same (f s) (g s))) → (s : State) → f s ≡ g s
 by_state f g h s = same_eq (f s) (g s) (at_state (λ s. same (f s) (g s)) h s)
+
+-- The table has the class of each byte below 13, and from there on no byte is a state.
+abbrev pub classes : List ℕ
+classes = 0 ∷ 8 ∷ 10 ∷ 1 ∷ 1 ∷ 1 ∷ 1 ∷ 1 ∷ 1 ∷ 9 ∷ 11 ∷ 13 ∷ 15 ∷ []
+
+pub class_at : (b : ℕ) {k : ℕ} → k ≡ b → k < 13 → slice_index_or classes k 0 ≡ class_of (state_of b)
+unfolding all_below state_of
+class_at b e h = rw (← e) (eqb-true _ _ (below_all (λ b. eqb (slice_index_or classes b 0) (class_of (state_of b))) 13 refl _ h))
+
+pub class_beyond : (b : ℕ) {k : ℕ} → k ≡ b → 13 ≤ k → 1 ≡ class_of (state_of b)
+unfolding state_of
+class_beyond b {k} e h =
+    rw (
+      ne_eqb b 0 (apart 0 (omega arith)),
+      ne_eqb b 1 (apart 1 (omega arith)),
+      ne_eqb b 2 (apart 2 (omega arith)),
+      ne_eqb b 9 (apart 9 (omega arith)),
+      ne_eqb b 10 (apart 10 (omega arith)),
+      ne_eqb b 11 (apart 11 (omega arith)),
+      ne_eqb b 12 (apart 12 (omega arith)),
+    )
+  where
+    apart : (n : ℕ) → n < 13 → b ≢ n
+    apart n l f = omega (arith, h, e, l, f)
 
 -- Held, owned, and a state.
 pub class_valid : (y : Option State) → leb 8 (class_of y) ≡ valid (or_invalid y)

@@ -24,22 +24,17 @@ struct Held {
     word: u64,
 }
 
+// The classes of the bytes below 13, each at its byte. (A match on the byte would be a jump, mispredicted where states are mixed.)
+const CLASSES: [u8; 13] = [0, 8, 10, 1, 1, 1, 1, 1, 1, 9, 11, 13, 15];
+
 // The class of a byte's state, as a number: 1 for a byte that is no state; 0 for I; else 8, and 1 more for write back, 2 more for E or M,
-// 4 more for O or M. A match on the byte is a table; one on the State would be a jump, mispredicted where states are mixed.
-#[tactic(auto, unfolding(protocol::specs::State::state_of))]
+// 4 more for O or M.
+#[tactic(auto, using(crate::proofs::Classes::class_at, crate::proofs::Classes::class_beyond))]
 fn class_of(b: u8) -> u8
     ensures { result ≡ class_of (state_of b) }
 {
-    match b {
-        0 => 0,
-        1 => 8,
-        2 => 10,
-        9 => 9,
-        10 => 11,
-        11 => 13,
-        12 => 15,
-        3..=8 | 13..=255 => 1,
-    }
+    let k = usize::from(b);
+    if k < CLASSES.len() { CLASSES[k] } else { 1 }
 }
 
 // The class of O or M.

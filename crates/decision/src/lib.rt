@@ -68,7 +68,11 @@ fn find_word(
 fn find_state(hit: bool, byte: u8) -> State
     ensures { result ≡ cond hit (or_invalid (state_of byte)) State.I }
 {
-    if hit { state::or_invalid(byte) } else { State::I }
+    if hit {
+        state::or_invalid(byte)
+    } else {
+        State::I
+    }
 }
 
 // What an access by port i comes to, from what the ports say of the line; every entry is sound.

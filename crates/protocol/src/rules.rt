@@ -47,20 +47,17 @@ pub struct Rule {
 fn sharing(m: Mode, s: State) -> State
     ensures { result ≡ sharing m s }
 {
-    match s {
-        State::I => State::I,
-        State::S(_) | State::E(_) | State::O | State::M => State::S(m),
-    }
+    if s.is_valid() { State::S(m) } else { State::I }
 }
 
 // A holder becomes write-back S, but an owner stays the owner, as O.
 fn sharing_owned(s: State) -> State
     ensures { result ≡ sharing_owned s }
 {
-    match s {
-        State::I => State::I,
-        State::S(_) | State::E(_) => State::S(Mode::Back),
-        State::O | State::M => State::O,
+    if s.is_owner() {
+        State::O
+    } else {
+        sharing(Mode::Back, s)
     }
 }
 
