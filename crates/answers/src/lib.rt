@@ -8,6 +8,7 @@ ghost use Rattle.answers.specs.Answers.{answer_bytes};
 
 use model::answer::Answer;
 
+// The answer of a refused order. The refusal is a number, as the C interface has it.
 pub fn refuse(n: u64) -> Answer
     ensures { result ≡ refused n }
 {
@@ -33,7 +34,7 @@ pub fn accept(value: u64, swapped: bool, fetches: bool, evicts: bool, stores: bo
     }
 }
 
-// The five numbers, 64 bits each.
+// The five numbers, 64 bits each, as the C interface writes them: the refusal is one of them.
 pub fn put_answer(out: &mut [u8], refusal: u64, value: u64, swapped: u64, reads: u64, writes: u64)
     requires { length out.old ≡ 40 }
     ensures { out.new ≡ answer_bytes

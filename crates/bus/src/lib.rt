@@ -90,6 +90,7 @@ fn broadcast(
     let sets = line.shape.sets;
     let mut rest = asked;
     let mut k = line.place.index;
+    // Ports leave the mask until none is left: no index is counted that a `for` could count.
     while rest != 0 {
         let skipped = mask::lowest_port(rest);
         rest = (rest >> skipped) / 2;

@@ -15,6 +15,7 @@ use words::access::Outcome;
 // How many cases there are, those that have no row among them (`case_at` ensures it).
 pub const CASES: u8 = 227;
 
+// A digit of a case's number, here and in the three functions below: any other digit stands for the last value, so a conversion would have no error.
 #[tactic(auto, unfolding(rows::specs::Cases::outcome_in_turn))]
 fn outcome_at(n: u8) -> Outcome
     ensures { result ≡ outcome_in_turn n }

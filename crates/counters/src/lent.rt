@@ -49,7 +49,7 @@ pub fn is_full(lent: &[u8]) -> bool
     (0..PLACES).any(|k| is_high(total_at(lent, k)))
 }
 
-// The place under which an order is counted.
+// The place under which an order is counted. Kinds and refusals are numbers here: the record that a C host lends has its places by them.
 fn order_place(kind: usize, refusal: u64) -> usize
     ensures { result ≡ order_place kind refusal }
 {

@@ -18,7 +18,7 @@ pub fn kind_of(w: u64) -> usize
     (w / 1 % 8) as usize
 }
 
-// Write back, or write through.
+// Write back, or write through, from one bit: a `From<bool>` would not say which is which.
 fn mode_of(back: bool) -> Mode
     ensures { result ≡ cond back Mode.Back Mode.Through }
 {
@@ -38,7 +38,7 @@ fn mode_in_force(shape: Shape, w: u64, a: usize) -> Mode
     mode_of(shape.scratch.has(a) | (!shape.device.has(a) & said))
 }
 
-// The kind of a number, if it is one.
+// The kind of a number, if it is one. It is no `TryFrom`: the one error is the refusal that its one caller gives.
 #[tactic(auto, unfolding(model::specs::Order::kind_at))]
 fn kind_at(n: usize) -> Option<Kind>
     ensures { result ≡ kind_at n }

@@ -1,4 +1,5 @@
-// Where a line's word stands, and the view of that word.
+// Where a line's word stands, and the view of that word. Words are what finding was promised on, and a part of them is what the view hands back; the
+// step is on bytes.
 #![tactic(auto)]
 
 ghost use Rattle.std.specs.Prelude.{◌≡◌, [], ◌∷◌, ◌<◌, get_or, length, Ok};

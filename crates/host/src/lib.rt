@@ -7,7 +7,7 @@ ghost use Rattle.host.specs.Totals.{counts_in};
 
 use model::answer::Answer;
 
-// A refusal's five numbers, where the slice has its 40 bytes; one of another length is left alone.
+// The five numbers of a refusal, which is a number as C has it, where the slice has its 40 bytes; one of another length is left alone.
 #[tactic(auto, using(crate::proofs::Totals::put_fits, crate::proofs::Totals::put_other))]
 pub fn put_refusal(out: &mut [u8], n: u64)
     ensures { out.new ≡ refusal_put n out.old }

@@ -95,7 +95,7 @@ impl TryFrom<State> for Letter {
 }
 
 // What becomes of a state byte, by the way that it goes: the byte of the other edition. It is refused where it is no state of its own edition,
-// or a state in write through, which the old edition does not have.
+// or a state in write through, which the old edition does not have. Each way asks other types, so no closure is chosen here.
 #[tactic(auto, unfolding(crate::specs::Letters::converted))]
 pub fn convert_byte(way: Way, b: u8) -> Result<u8, Refusal>
     ensures { result ≡ converted way b }

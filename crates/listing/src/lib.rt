@@ -93,6 +93,7 @@ fn table_name(table: Table) -> &'static str {
     }
 }
 
+// The words of the tables, here and in the functions below, and no `Display`: elsewhere these types may be shown in other words.
 fn outcome_text(outcome: Outcome) -> &'static str {
     match outcome {
         Outcome::Reads => "read",

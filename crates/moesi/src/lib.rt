@@ -1,5 +1,6 @@
 // The calls of the C interface: step, step with totals, fresh, audit and the conversion of old tables on numbers and byte slices, as
-// include/moesi.h declares them; the crate moesi_c exports them. Each returns its refusal, 0 if none.
+// include/moesi.h declares them; the crate moesi_c exports them. Each returns the number of its refusal, 0 if none, as a C host is
+// given it; `moesi_from_old` and `moesi_to_old` are two calls of that interface.
 // All that is asked of the caller is that the slices have the lengths that it says and share no byte with one another.
 // Each contract equates what a call returns and leaves with a definition. Those of step, fresh and audit say besides that what is lent is
 // bytes (`OfBytes`): the theorems over calls, in crates/host/specs, start from that.

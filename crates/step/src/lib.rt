@@ -15,7 +15,8 @@ use refusals::Refusal;
 use shape::Shape;
 
 // A call on line a. All but a device read look at the ports' entries, and may be refused for one. The look stands in each arm: in front of
-// them the fields of every kind of call would be carried past it, which costs an access 5 to 8 % more instructions.
+// them the fields of every kind of call would be carried past it, which costs an access 5 to 8 % more instructions. Each arm is another function
+// with other arguments, so no closure is chosen here.
 fn perform_call(
     shape: Shape,
     memory: &mut [u8],

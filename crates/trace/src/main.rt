@@ -59,14 +59,7 @@ const ROOM: usize = 16 + 16 * MAX_ORDERS + 1;
 
 fn main(rt: HostRuntime) -> Result<()> {
     let mut buffer = [0u8; ROOM];
-    let none = Answer {
-        refusal: 0,
-        value: 0,
-        swapped: 0,
-        reads: 0,
-        writes: 0,
-    };
-    let mut answers = [none; MAX_ORDERS];
+    let mut answers = [Answer::default(); MAX_ORDERS];
     let n = read_full(&mut rt.stdin(), &mut buffer)?;
     match replay::play_trace(&buffer[..n], &mut answers) {
         Ok(p) => print_played(&rt, p, &answers),
