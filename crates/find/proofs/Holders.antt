@@ -6,7 +6,6 @@ use mathlib.Core.List.{List, []}
 use lib.ListN.{get_or}
 use lib.Dec.{eqb, ltb}
 use native.Mathlib.Nat.{mod-lt}
-use Rattle.std.specs.Prelude.{Option}
 use Rattle.protocol.specs.declared.state.State.{State}
 use Rattle.protocol.specs.declared.state.State.TheVariants.{I}
 use Rattle.protocol.specs.State.{state_of, or_invalid, is_state, valid}

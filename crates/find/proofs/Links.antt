@@ -10,8 +10,7 @@ use Rattle.shape.specs.declared.Place.{Place}
 use Rattle.shape.specs.Shape.{in_range, refusal_of, entry_number, entry_of, place_of}
 use Rattle.model.specs.Tables.{model, lent_refusal}
 use Rattle.shape.proofs.Bounds.{some_sets}
-use Rattle.model.proofs.Lent.{lent_facts}
-use Rattle.find.specs.Ready.{Ready}
+use Rattle.model.proofs.Lent.{Lent, lent_facts}
 
 -- The index of a line's place, and the number of a port's entry there.
 pub index_below : (s : Shape) (a : ℕ) {x : Place} → x ≡ place_of s a → in_range s ≡ true → x.index < s.sets
@@ -22,10 +21,7 @@ pub number_is : (s : Shape) (a p : ℕ) {x : Place} → x ≡ place_of s a → {
 unfolding place_of
 number_is s a p e n = n ∙ rw e
 
--- What is lent without a refusal is in range, and has the shape's sizes; so a line of it may be looked up.
-pub ready : (s : Shape) (m g h w : List ℕ) → 0 ≡ refusal_of s (length m) (length g) (length h) (length w) → {a : ℕ} → a < s.lines
-    → Ready s g h a
+-- What is lent without a refusal is in range, and has the shape's sizes.
+pub fitting : (s : Shape) (m g h w : List ℕ) → 0 ≡ refusal_of s (length m) (length g) (length h) (length w) → Lent s (model m g h w)
 unfolding lent_refusal
-ready s m g h w e q =
-    let l = lent_facts s (model m g h w) (sym e) in
-    record { range = l.range; below = q; tags_fit = l.sizes.tags; states_fit = l.sizes.states }
+fitting s m g h w e = lent_facts s (model m g h w) (sym e)

@@ -2,66 +2,77 @@
 // step is on bytes.
 #![tactic(auto)]
 
-ghost use Rattle.std.specs.Prelude.{◌≡◌, [], ◌∷◌, ◌<◌, get_or, length, Ok};
-ghost use Rattle.shape.specs.Shape.{entry_of};
+ghost use Rattle.std.specs.Prelude.{◌≡◌, true, [], ◌∷◌, ◌<◌, get_or, length, Ok};
+ghost use Rattle.shape.specs.Shape.{in_range, entries, entry_of};
 ghost use Rattle.model.specs.Below.{lowest};
 ghost use Rattle.model.specs.Tables.{model, sound, holds, column_sound};
 ghost use Rattle.model.specs.Find.{found, holder_or, find, view};
-ghost use Rattle.find.specs.Ready.{Ready};
 
 use protocol::state;
 use refusals::Refusal;
 use shape::{Shape, Sizes};
 
-// Port p's entry for line a is sound: its byte is a state, and it is I or has a home line below lines.
-#[tactic(auto, using(crate::proofs::Links::index_below, crate::proofs::Holders::sound_is))]
-fn sound_at(shape: Shape, tags: &[u32], states: &[u8], a: usize, p: usize) -> bool
-    requires ready { Ready shape tags.now states.now a }
-    requires there { p < shape.ports }
-    ensures { result ≡ sound shape (model [] tags.now states.now []) (entry_of shape a p) }
-{
-    let at = shape.place(a);
-    let k = shape.entry_number(p, at.index);
-    let b = states[k];
-    state::is_state(b) & (!state::is_valid(b) | (tags[k] < at.limit))
+// Every port's entry at the index of one line: slices of the lengths that the shape gives, a shape within its limits, and a line that is there.
+#[derive(Clone, Copy)]
+struct Column<'a> {
+    shape: Shape,
+    tags: &'a [u32],
+    states: &'a [u8],
+    line: usize,
+    ghost range: { in_range shape ≡ true },
+    ghost below: { line < shape.lines },
+    ghost tags_fit: { length tags.now ≡ entries shape },
+    ghost states_fit: { length states.now ≡ entries shape },
 }
 
-// Port p holds line a.
-#[tactic(auto, using(crate::proofs::Links::index_below))]
-fn holds_at(shape: Shape, tags: &[u32], states: &[u8], a: usize, p: usize) -> bool
-    requires ready { Ready shape tags.now states.now a }
-    requires there { p < shape.ports }
-    ensures { result ≡ holds shape (model [] tags.now states.now []) a p }
-{
-    let at = shape.place(a);
-    let k = shape.entry_number(p, at.index);
-    (tags[k] == at.tag) & state::is_valid(states[k])
-}
-
-// Every port's entry at the index of line a is sound.
-fn column_sound(shape: Shape, tags: &[u32], states: &[u8], a: usize) -> bool
-    requires { Ready shape tags.now states.now a }
-    ensures { result ≡ column_sound shape (model [] tags.now states.now []) a }
-{
-    for p in 0..shape.ports {
-        if !sound_at(shape, tags, states, a, p) {
-            return false;
-        }
+impl Column<'_> {
+    // Port p's entry is sound: its byte is a state, and it is I or has a home line below lines.
+    #[tactic(auto, using(crate::proofs::Links::index_below, crate::proofs::Holders::sound_is))]
+    fn sound_at(&self, p: usize) -> bool
+        requires { p < self.now.shape.ports }
+        ensures { result ≡ sound self.now.shape (model [] self.now.tags.now self.now.states.now []) (entry_of self.now.shape self.now.line p) }
+    {
+        let at = self.shape.place(self.line);
+        let k = self.shape.entry_number(p, at.index);
+        let b = self.states[k];
+        state::is_state(b) & (!state::is_valid(b) | (self.tags[k] < at.limit))
     }
-    true
-}
 
-// The lowest-numbered port that holds line a, if any.
-fn first_holder(shape: Shape, tags: &[u32], states: &[u8], a: usize) -> Option<usize>
-    requires { Ready shape tags.now states.now a }
-    ensures { found (Ok result) ≡ holder_or (lowest (holds shape (model [] tags.now states.now []) a) shape.ports) }
-{
-    for p in 0..shape.ports {
-        if holds_at(shape, tags, states, a, p) {
-            return Some(p);
-        }
+    // Port p holds the line.
+    #[tactic(auto, using(crate::proofs::Links::index_below))]
+    fn holds_at(&self, p: usize) -> bool
+        requires { p < self.now.shape.ports }
+        ensures { result ≡ holds self.now.shape (model [] self.now.tags.now self.now.states.now []) self.now.line p }
+    {
+        let at = self.shape.place(self.line);
+        let k = self.shape.entry_number(p, at.index);
+        (self.tags[k] == at.tag) & state::is_valid(self.states[k])
     }
-    None
+
+    // Every port's entry is sound.
+    fn is_sound(&self) -> bool
+        ensures { result ≡ column_sound self.now.shape (model [] self.now.tags.now self.now.states.now []) self.now.line }
+    {
+        for p in 0..self.shape.ports {
+            if !self.sound_at(p) {
+                return false;
+            }
+        }
+        true
+    }
+
+    // The lowest-numbered port that holds the line, if any.
+    fn first_holder(&self) -> Option<usize>
+        ensures { found (Ok result)
+            ≡ holder_or (lowest (holds self.now.shape (model [] self.now.tags.now self.now.states.now []) self.now.line) self.now.shape.ports) }
+    {
+        for p in 0..self.shape.ports {
+            if self.holds_at(p) {
+                return Some(p);
+            }
+        }
+        None
+    }
 }
 
 // Where the word of line a stands: at the lowest-numbered port that holds the line, or in memory, where there is none. What is lent is checked
@@ -85,10 +96,16 @@ pub fn find_line(
     if shape.lines <= a {
         return Err(Refusal::Line);
     }
-    if !column_sound(shape, tags, states, a) {
+    let column = Column {
+        shape,
+        tags,
+        states,
+        line: a,
+    };
+    if !column.is_sound() {
         return Err(Refusal::Entry);
     }
-    Ok(first_holder(shape, tags, states, a))
+    Ok(column.first_holder())
 }
 
 // One word of a slice.

@@ -208,7 +208,7 @@ pub fn put_tables<W: Write>(out: &mut W, form: Form) -> Result<()> {
     }
 }
 
-// Room for all tables, in either form.
+// Room for all tables, in either form. It is of fixed size and on the stack: no program here takes memory from a heap.
 const ROOM: usize = 32768;
 
 // All tables as one page, laid out on the stack and written to standard output at once.

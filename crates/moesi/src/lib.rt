@@ -7,6 +7,7 @@
 #![tactic(auto)]
 
 ghost use Rattle.std.specs.Prelude.{◌≡◌, []};
+ghost use Rattle.refusals.specs.Numbers.{refusal_in};
 ghost use Rattle.shape.specs.Shape.{shape_of, unranged};
 ghost use Rattle.decode.specs.Order.{order};
 ghost use Rattle.ports.specs.Bytes.{bytes};
@@ -21,16 +22,16 @@ use letters::Way;
 use refusals::Refusal;
 use shape::{Shape, Sizes};
 
-// The number of the refusal of what is lent, 0 if none; out says that the slice written to has its length.
-fn lent_refusal(
+// What is lent has the lengths of the shape; out says that the slice written to has its own.
+fn check_lent(
     shape: Shape,
     memory: &[u8],
     tags: &[u8],
     states: &[u8],
     data: &[u8],
     out: bool,
-) -> u64
-    ensures { result ≡ host_refusal shape (bytes memory.now tags.now states.now «data».now) out }
+) -> Result<(), Refusal>
+    ensures { refusal_in result ≡ host_refusal shape (bytes memory.now tags.now states.now «data».now) out }
 {
     let lent = Sizes {
         memory: memory.len(),
@@ -38,7 +39,7 @@ fn lent_refusal(
         states: states.len(),
         data: data.len(),
     };
-    refusals::number_of(lengths::check(shape, lent, out))
+    lengths::check(shape, lent, out)
 }
 
 // One order: its five numbers go to answer, those of a refused order too. An answer of another length than 40 bytes is left alone.
@@ -72,8 +73,8 @@ pub fn moesi_step(
         device_first,
         device_count,
     );
-    let n = lent_refusal(shape, memory, tags, states, data, answer.len() == 40);
-    if n != 0 {
+    if let Err(r) = check_lent(shape, memory, tags, states, data, answer.len() == 40) {
+        let n = u64::from(r);
         host::put_refusal(answer, n);
         return n;
     }
@@ -119,7 +120,7 @@ pub fn moesi_step_totals(
             device_first,
             device_count,
         );
-        let n = lent_refusal(shape, memory, tags, states, data, false);
+        let n = refusals::number_of(check_lent(shape, memory, tags, states, data, false));
         host::put_refusal(answer, n);
         return n;
     }
@@ -177,13 +178,13 @@ pub fn moesi_fresh(
         device_first,
         device_count,
     );
-    let n = lent_refusal(shape, memory, tags, states, data, true);
-    if n == 0 {
-        fresh::clear_bytes(tags);
-        fresh::clear_bytes(states);
-        fresh::clear_bytes(data);
+    if let Err(r) = check_lent(shape, memory, tags, states, data, true) {
+        return u64::from(r);
     }
-    n
+    fresh::clear_bytes(tags);
+    fresh::clear_bytes(states);
+    fresh::clear_bytes(data);
+    0
 }
 
 // The audit: 1 for yes goes to verdict, else 0; a refused audit says no.
@@ -217,12 +218,11 @@ pub fn moesi_audit(
         device_count,
     );
     let out = verdict.len() == 1;
-    let n = lent_refusal(shape, memory, tags, states, data, out);
-    if n != 0 {
+    if let Err(r) = check_lent(shape, memory, tags, states, data, out) {
         if out {
             verdict[0] = 0;
         }
-        return n;
+        return u64::from(r);
     }
     verdict[0] = u8::from(audit::audit_tables(shape, memory, tags, states, data));
     0

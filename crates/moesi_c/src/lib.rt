@@ -1,5 +1,6 @@
 // The C interface as a static library: each export is the call of its name in the crate moesi, with the same contract. include/moesi.h declares
-// them.
+// them. A C host is given the number of a refusal, so each returns one. They stand apart from those calls because a static library is no crate
+// that another crate can call.
 #![tactic(auto)]
 
 ghost use Rattle.std.specs.Prelude.{◌≡◌, []};

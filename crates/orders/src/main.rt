@@ -247,7 +247,7 @@ fn play<W: Write>(out: &mut W) -> Result<()> {
     machine.look(out, 0)
 }
 
-// Room for all that is printed. It is laid out on the stack, and written at once.
+// Room for all that is printed. It is of fixed size and on the stack (no heap is a rule here), and written at once.
 const ROOM: usize = 4096;
 
 fn main(rt: HostRuntime) -> Result<()> {

@@ -13,7 +13,7 @@ use std::io::{Read, Result, Write};
 // The most traces that are read. A total of a trace is at most 2 x 2,048, so a sum of 9,999 traces is below 2 to the 26: no sum passes 64 bits.
 const MOST_TRACES: u64 = 9999;
 
-// Room for the longest trace; only one is kept.
+// Room for the longest trace, of fixed size and on the stack (no heap is a rule here); only one is kept.
 const ROOM: usize = 16 + 16 * replay::MAX_ORDERS;
 
 // A row's numbers, with a blank between two.

@@ -54,7 +54,8 @@ fn print_played(rt: &impl Print, p: Played, answers: &[Answer; MAX_ORDERS]) -> R
     print_line(rt, |out| writeln!(out, "audit {passes}"))
 }
 
-// Room for the longest trace, and for one byte more: a longer input is then refused by its length.
+// Room for the longest trace, of fixed size and on the stack (no heap is a rule here), and for one byte more: a longer input is then refused by its
+// length.
 const ROOM: usize = 16 + 16 * MAX_ORDERS + 1;
 
 fn main(rt: HostRuntime) -> Result<()> {

@@ -1,7 +1,7 @@
 -- The loop goes on while the ports' entries are sound. Assumes nothing.
 use Rattle.model.specs.Tables.{column_sound}
 use Rattle.model.proofs.Loops.{passing_none, passing_fails, passing_more, passing_done}
-use Rattle.find.proofs.column_sound.Goals as goal
+use Rattle.find.proofs.Column.is_sound.Goals as goal
 
 pub loop-p-init : goal.loop-p-init
 loop-p-init c = passing_none _ _

@@ -1,7 +1,7 @@
 -- The loop goes on while no port holds the line. Assumes nothing.
 use Rattle.model.proofs.Loops.{searching_none, searching_more}
 use Rattle.find.proofs.Holders.{holder_found, holder_none}
-use Rattle.find.proofs.first_holder.Goals as goal
+use Rattle.find.proofs.Column.first_holder.Goals as goal
 
 pub loop-p-init : goal.loop-p-init
 loop-p-init c = searching_none _ _
