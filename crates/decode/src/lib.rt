@@ -79,17 +79,20 @@ fn call_of(kind: Kind, m: Mode, port: usize, mask: u8, compare: u64, x: u64) -> 
     }
 }
 
-// The port is checked first, where the kind has one, then the line, and a swap's mask; else the call and its line.
+// The port is checked first, where the kind has one, then the line, and a swap's mask; else the call and its line. (The call is made last: made
+// before the checks it takes a jump on the kind by itself, and an order of the program `totals` 276 instructions for 247.)
 #[tactic(auto, using(crate::proofs::Numbers::known), unfolding(model::specs::Order::checked))]
 fn checked_call(
     shape: Shape,
     kind: Kind,
+    m: Mode,
     port: usize,
     mask: u8,
     line: usize,
-    call: Call,
+    compare: u64,
+    x: u64,
 ) -> Result<(Call, usize), Refusal>
-    ensures { decoded result ≡ checked shape (kind_number kind) port mask line call }
+    ensures { decoded result ≡ checked shape (kind_number kind) port mask line (call_of (kind_number kind) m port mask compare x) }
 {
     if has_port(kind) & (shape.ports <= port) {
         return Err(Refusal::Port);
@@ -100,7 +103,7 @@ fn checked_call(
     if matches!(kind, Kind::Swap) & !matches!(mask, 0x0F | 0xF0) {
         return Err(Refusal::Mask);
     }
-    Ok((call, line))
+    Ok((call_of(kind, m, port, mask, compare, x), line))
 }
 
 // The fields of the word: 0-2 kind, 3 mode, 4-7 port, 8-15 byte mask, 16-31 line, 32-63 compare value.
@@ -115,6 +118,14 @@ pub fn decode_order(shape: Shape, w: u64, x: u64) -> Result<(Call, usize), Refus
     let mask = (w / 256 % 256) as u8;
     let line = (w / 65536 % 65536) as usize;
     let compare = w / 4294967296 % 4294967296;
-    let call = call_of(kind, mode_in_force(shape, w, line), port, mask, compare, x);
-    checked_call(shape, kind, port, mask, line, call)
+    checked_call(
+        shape,
+        kind,
+        mode_in_force(shape, w, line),
+        port,
+        mask,
+        line,
+        compare,
+        x,
+    )
 }

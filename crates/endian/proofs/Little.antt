@@ -1,21 +1,17 @@
 -- Laws of little-endian numbers: one number in bytes, and a list of them. Assumes nothing.
 use Prim.Native.Nat.{ℕ, zero, suc, ◌+◌, ◌*◌, ◌/◌, ◌%◌, ◌^◌, ◌-◌, ◌<◌, ◌≤◌}
 use mathlib.Core.Path.{◌≡◌, refl, ap, sym, ◌∙◌}
-use mathlib.Core.List.{List, [], ◌∷◌, ◌++◌, reverse}
+use mathlib.Core.List.{List, [], ◌∷◌, ◌++◌}
 use native.Mathlib.Omega.{arith}
 use native.Mathlib.Nat.{add-zero, zero-add, suc-add, add_comm, mul-zero, mul-suc}
-use lib.ListN.{get_or, set, length, take, drop, take-append-drop, length-append, length-drop}
+use lib.ListN.{get_or, set, length, take, drop, replicate, take-append-drop, length-append, length-drop}
 use lib.Pow.{pow-add}
 use lib.Seq.{get_or-drop, drop-drop, sets, length-sets}
 use borrow.Rule.Slice.PartMut.{put_mid}
-use Rattle.std.specs.Int.{w64, byte_at, bytes_low_first, to_le_bytes}
-use Rattle.std.specs.Int.Bits.{bit_or}
-use Rattle.std.specs.List.{fold}
-use Rattle.std.proofs.Math.Nat.{div-div-eq-div-mul, div-one, pow-le-pow_right, pow-suc}
-use Rattle.std.proofs.lemmas.Grind.{or_after_shift}
-use Rattle.std.proofs.lemmas.List.{reverse-append, take_all}
-use Rattle.std.proofs.lemmas.List.Sums.{fold-append}
-use Rattle.std.proofs.lemmas.List.Edits.{sets-eq}
+use Rattle.std.specs.Int.{w64, byte_at, bytes_low_first, to_le_bytes, from_le_bytes}
+use Rattle.std.proofs.Math.Nat.{div-div-eq-div-mul, div-one, pow-suc}
+use Rattle.std.proofs.lemmas.List.{take_all, length-take-le, length-replicate, drop-replicate}
+use Rattle.std.proofs.lemmas.List.Edits.{sets-eq, paste_all}
 use Rattle.std.proofs.lemmas.Slice.{put_mid-paste}
 use Rattle.endian.specs.Little.{number, bytes_of, numbers, encoded}
 
@@ -33,31 +29,50 @@ number_fits (suc w) bs h =
     let r : number w (drop 1 bs) < 256 ^ w = number_fits w (drop 1 bs) (λ k. rw (get_or-drop 1 bs k 0) (h (1 + k))) in
     omega (arith, pow-add 256 1 w)
 
--- The bytes of a number, taken in from the highest down.
-abbrev pub taken_in : ℕ → ℕ → ℕ
-taken_in n b = bit_or (n * 256 % 2 ^ 64) b
-
-number_taken : (w : ℕ) (bs : List ℕ) → ((k : ℕ) → get_or bs k 0 < 256) → w ≤ 8 → w ≤ length bs → fold taken_in 0 (reverse (take w bs)) ≡ number w bs
+-- Eight bytes, as the library reads them.
+eight_read : (bs : List ℕ) → length bs ≡ 8 → from_le_bytes w64 bs ≡ number 8 bs
 unfolding number
-number_taken zero bs b h r = refl
-number_taken (suc w) [] b h r = absurd (omega arith)
-number_taken (suc w) (x ∷ bs) b h r =
-    let more : (k : ℕ) → get_or bs k 0 < 256 = λ k. b (suc k) in
-    let fits : number w bs < 256 ^ w = number_fits w bs more in
-    let high : 256 ^ w ≤ 256 ^ 7 = pow-le-pow_right {n = 256} (omega arith) {i = w} {j = 7} (omega arith) in
-    let low : x < 256 = b 0 in
-    ap (fold taken_in 0) (reverse-append (x ∷ []) (take w bs)) ∙ fold-append taken_in 0 (reverse (take w bs)) (x ∷ [])
-    ∙ rw (number_taken w bs more (omega arith) (omega arith))
-    (or_after_shift (number w bs) 256 (2 ^ 64) x refl low (omega (arith, fits, high)) ∙ omega arith)
+eight_read [] h = absurd (omega (arith, h))
+eight_read (a ∷ []) h = absurd (omega (arith, h))
+eight_read (a ∷ b ∷ []) h = absurd (omega (arith, h))
+eight_read (a ∷ b ∷ c ∷ []) h = absurd (omega (arith, h))
+eight_read (a ∷ b ∷ c ∷ d ∷ []) h = absurd (omega (arith, h))
+eight_read (a ∷ b ∷ c ∷ d ∷ e ∷ []) h = absurd (omega (arith, h))
+eight_read (a ∷ b ∷ c ∷ d ∷ e ∷ f ∷ []) h = absurd (omega (arith, h))
+eight_read (a ∷ b ∷ c ∷ d ∷ e ∷ f ∷ g ∷ []) h = absurd (omega (arith, h))
+eight_read (a ∷ b ∷ c ∷ d ∷ e ∷ f ∷ g ∷ i ∷ []) h = omega arith
+eight_read (a ∷ b ∷ c ∷ d ∷ e ∷ f ∷ g ∷ i ∷ j ∷ bs) h = absurd (omega (arith, h))
 
--- The w bytes from a place on.
-pub number_read : (w at : ℕ) (s : List ℕ) {x : ℕ} → w ≤ 8 → at + w ≤ length s → ((k : ℕ) → get_or s k 0 < 256)
-    → x ≡ fold taken_in 0 (reverse (take (at + w - at) (drop at s))) → (x ≡ number w (drop at s)) × (x < 256 ^ w)
-number_read w at s {x} h r b e =
-    let k : at + w - at ≡ w = omega arith in
+-- Zeros above a number leave it.
+number_zeros : (k : ℕ) → number k (replicate k 0) ≡ 0
+unfolding number
+number_zeros zero = refl
+number_zeros (suc k) = omega (arith, number_zeros k)
+
+number_padded : (w k : ℕ) (bs : List ℕ) → w ≤ length bs → number (w + k) (take w bs ++ replicate k 0) ≡ number w bs
+unfolding number
+number_padded zero k bs h = rw (zero-add k) (number_zeros k)
+number_padded (suc w) k [] h = absurd (omega arith)
+number_padded (suc w) k (b ∷ bs) h = rw (suc-add w k, number_padded w k bs (omega arith))
+
+-- The w bytes from a place on, read in front of zeros.
+pub number_read : (w at : ℕ) (s : List ℕ) {x : ℕ} {bs : List ℕ} → w ≤ 8 → at + w ≤ length s → ((k : ℕ) → get_or s k 0 < 256)
+    → bs ≡ take (at + w - at) (drop at s) → x ≡ from_le_bytes w64 (put_mid 0 (w - 0) (replicate 8 0) bs) → (x ≡ number w (drop at s)) × (x < 256 ^ w)
+number_read w at s {x} {bs} h r b e z =
     let room : w ≤ length (drop at s) = rw (length-drop at s) (omega arith) in
+    let k : at + w - at ≡ w = omega arith in
+    let o : w ≡ w - 0 = omega arith in
+    let fit : w + (8 - w) ≡ 8 = omega arith in
+    let e' : bs ≡ take w (drop at s) = e ∙ ap (λ (n : ℕ). take n (drop at s)) k in
+    let l : w ≡ length (take w (drop at s)) = sym (length-take-le w (drop at s) room) in
+    let p : put_mid 0 (w - 0) (replicate 8 0) bs ≡ take w (drop at s) ++ replicate (8 - w) 0 =
+    put_mid-paste 0 (w - 0) (replicate 8 0) bs (take w (drop at s)) w e' o l
+    ∙ paste_all (replicate 8 0) 0 (take w (drop at s)) w l ∙ rw (zero-add w, drop-replicate {X = ℕ} w 8 0) in
+    let eight : length (take w (drop at s) ++ replicate (8 - w) 0) ≡ 8 = rw (length-append (take w (drop at s)) (replicate (8 - w) 0), ← l, length-replicate {A = ℕ} (8 - w) 0) fit in
+    let n : x ≡ number w (drop at s) =
+    z ∙ ap (from_le_bytes w64) p ∙ eight_read (take w (drop at s) ++ replicate (8 - w) 0) eight
+    ∙ ap (λ (m : ℕ). number m (take w (drop at s) ++ replicate (8 - w) 0)) (sym fit) ∙ number_padded w (8 - w) (drop at s) room in
     let bytes : (k : ℕ) → get_or (drop at s) k 0 < 256 = λ k. rw (get_or-drop at s k 0) (b (at + k)) in
-    let n : x ≡ number w (drop at s) = e ∙ rw k (number_taken w (drop at s) bytes h room) in
     (n, rw n (number_fits w (drop at s) bytes))
 
 -- The lowest w bytes of a number, of more that the library's method gives, and these stored.

@@ -5,14 +5,15 @@ ghost use Rattle.std.specs.Prelude.{◌≡◌, ◌+◌, ◌<◌, ◌≤◌, ◌^
 ghost use Rattle.std.proofs.lemmas.List.Edits.{sets};
 ghost use Rattle.endian.specs.Little.{number, bytes_of};
 
-// The number of N bytes from at on.
+// The number of N bytes from at on. (A fold over the bytes becomes loads of a byte or two wherever a caller takes fields out of the number.)
 pub fn read<const N: usize>(s: &[u8], at: usize) -> u64
     requires width { N ≤ 8 }
     requires room { at + N ≤ length s.now }
     ensures { (result ≡ number N (drop at s.now)) × (result < 256 ^ N) }
 {
-    let bytes = &s[at..at + N];
-    bytes.iter().rev().fold(0, |n, b| (n << 8) | u64::from(*b))
+    let mut bytes = [0u8; 8];
+    bytes[..N].copy_from_slice(&s[at..at + N]);
+    u64::from_le_bytes(bytes)
 }
 
 // The lowest N bytes of x, stored from at on.

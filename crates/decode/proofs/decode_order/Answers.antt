@@ -12,4 +12,4 @@ pub returns : goal.returns
 unfolding decode
 returns c =
     c.checked_call.ensures
-    ∙ rw (c.call_of-call.ensures, c.mode_in_force.ensures, ← some_at _ _ (sym c.kind_at.ensures ∙ c.in-Some.is), c.kind_of.ensures)
+    ∙ rw (c.mode_in_force.ensures, ← some_at _ _ (sym c.kind_at.ensures ∙ c.in-Some.is), c.kind_of.ensures)
