@@ -1,12 +1,12 @@
 -- What the loops over a state table keep, and a number of a mapped list. Assumes nothing.
 use Prim.Native.Nat.{ℕ, zero, suc, ◌+◌, ◌<◌, ◌≤◌}
-use mathlib.Core.Path.{◌≡◌, refl, sym, ap, ◌∙◌}
+use mathlib.Core.Path.{◌≡◌, refl, sym, ap, subst, ◌∙◌}
 use mathlib.Core.Bool.{Bool, true, false, cond, ◌||◌}
 use mathlib.Core.List.{List, [], ◌∷◌, ◌++◌, map}
 use native.Mathlib.Omega.{arith}
 use native.Mathlib.Numerals.{add-one}
 use lib.ListN.{get_or, set, length, take, drop, length-map}
-use Rattle.std.proofs.lemmas.List.{take_all, drop_all, append-nil}
+use Rattle.std.proofs.lemmas.List.{take_all, drop_all, append-nil, map-id}
 use Rattle.std.specs.Prelude.{Result, Ok}
 use Rattle.refusals.specs.declared.Refusal.{Refusal}
 use Rattle.refusals.specs.Numbers.{refusal_in}
@@ -34,6 +34,17 @@ map_next f k l d h e = rw (add-one k) (next k l d h e)
 pub map_done : (f : ℕ → ℕ) (k : ℕ) (l d : List ℕ) → length l ≤ k → length d ≤ k → take k (map f l) ++ drop k d ≡ map f l
 map_done f k l d h e =
     rw (take_all k (map f l) (omega (arith, length-map l f)), drop_all k d e) (append-nil (map f l))
+
+-- The next number of a list as it is, written behind the first k.
+pub copy_next : (k : ℕ) (l d : List ℕ) → k < length l → length d ≡ length l
+    → set (take k l ++ drop k d) k (get_or l k 0) ≡ take (k + 1) l ++ drop (k + 1) d
+copy_next k l d h e =
+    subst (λ (m : List ℕ). set (take k m ++ drop k d) k (get_or l k 0) ≡ take (k + 1) m ++ drop (k + 1) d) (map-id l)
+    (map_next (λ (b : ℕ). b) k l d h e)
+
+pub copy_done : (k : ℕ) (l d : List ℕ) → length l ≤ k → length d ≤ k → take k l ++ drop k d ≡ l
+copy_done k l d h e =
+    subst (λ (m : List ℕ). take k m ++ drop k d ≡ m) (map-id l) (map_done (λ (b : ℕ). b) k l d h e)
 
 -- None of the first k of n numbers passes the first test, and what was found is 11 where one passes the second.
 pub record Asking (f g : ℕ → Bool) (n k : ℕ) (found : Result (Unit {0}) Refusal) : Type 0 where

@@ -26,6 +26,16 @@ fn states_refusal(way: Way, states: &[u8]) -> Result<(), Refusal>
     found
 }
 
+// Each byte as it is. (The library's `copy_from_slice` calls `memmove`, and the archive for C would then need it from outside.)
+fn copy_bytes(table: &[u8], out: &mut [u8])
+    requires { length out.old ≡ length table.now }
+    ensures { out.new ≡ table.now }
+{
+    for (k, b) in out.iter_mut().enumerate() {
+        *b = table[k];
+    }
+}
+
 // Each state byte converted. No byte of the table is refused: `states_refusal` comes first. (Of `iter_mut().zip(table)` no contract says what
 // is written.)
 fn convert_bytes(way: Way, table: &[u8], out: &mut [u8])
@@ -64,8 +74,8 @@ pub fn convert(
         return Err(Refusal::Lengths);
     }
     states_refusal(way, states)?;
-    tags_out.copy_from_slice(tags);
+    copy_bytes(tags, tags_out);
     convert_bytes(way, states, states_out);
-    data_out.copy_from_slice(data);
+    copy_bytes(data, data_out);
     Ok(())
 }
