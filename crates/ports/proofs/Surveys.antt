@@ -12,13 +12,11 @@ use lib.Arith.{digits_div, digits_mod}
 use lib.Bits.{bit_and}
 use lib.Pow.{pow_mono}
 use borrow.Author.Tests.{eqb-true, eqb-false, eq-eqb, lt-ltb, ltb-true, ltb-false, ne_eqb, not-true, not-false}
-use Rattle.std.specs.Prelude.{Option, Some, None, Result, Ok, Err}
-use Rattle.std.specs.Option.{ok_or}
-use Rattle.std.specs.Result.{result_map_both}
-use Rattle.refusals.specs.declared.Refusal.{Refusal}
+use Rattle.std.specs.Prelude.{Option, Some, None, Ok, Err}
+use Rattle.std.specs.Result.{result_ok, result_err}
+use Rattle.std.proofs.lemmas.Option.{none-some, same_Some}
 use Rattle.ports.specs.declared.survey.Look.{Look}
 use Rattle.ports.specs.Line.{line_of}
-use Rattle.refusals.specs.declared.Refusal.TheVariants.{Entry}
 use Rattle.protocol.specs.declared.state.State.{State}
 use Rattle.protocol.specs.State.{state_of, state_row, or_invalid, is_state, valid}
 use Rattle.protocol.proofs.States.{state_row_is, owner-valid}
@@ -287,27 +285,37 @@ module _ (l : Line) (v : Placed l) (g h d : List ℕ) where
     abbrev marked_owners : ℕ
     marked_owners = bit_and (sum / 65536) (sum % 65536)
 
-    pub surveyed_unsound : (marked_owners ≡ sum / 65536 → ⊥) → Err Entry ≡ ok_or (sound_masks s t a) Entry
-    unfolding sound_masks column_sound
-    surveyed_unsound n = rw (sym all_sound ∙ ne_eqb _ _ n)
+    pub surveyed_unsound : (marked_owners ≡ sum / 65536 → ⊥)
+        → Err (record { holders = sum % 65536; owners = marked_owners }) ≡ sound_masks s t a
+    unfolding sound_masks masks_of column_sound
+    surveyed_unsound n = rw (sym all_sound ∙ ne_eqb _ _ n, owners_are, holders_are)
 
     pub surveyed_sound : marked_owners ≡ sum / 65536
-        → Ok (record { holders = sum % 65536; owners = marked_owners }) ≡ ok_or (sound_masks s t a) Entry
+        → Ok (record { holders = sum % 65536; owners = marked_owners }) ≡ sound_masks s t a
     unfolding sound_masks masks_of column_sound
     surveyed_sound e = rw (sym all_sound ∙ eq-eqb _ _ e, owners_are, holders_are)
 
--- A look has what a survey said: by the same test.
-looked_by : {X Y : Type 0} (b : Bool) (f : X → Y) (x : X) → result_map_both f (λ (e : Refusal). e) (ok_or (cond b (Some x) None) Entry) ≡ ok_or (cond b (Some (f x)) None) Entry
-looked_by true f x = refl
-looked_by false f x = refl
+-- What a test lets through, and what it holds back.
+pub let_through : {X Y : Type 0} (b : Bool) {r x : X} (y : Y) → Ok r ≡ cond b (Ok x) (Err y) → (b ≡ true) × (r ≡ x)
+let_through true y e = (refl, same_Some _ _ (ap result_ok e))
+let_through false y e = absurd (none-some _ (sym (ap result_ok e)))
 
-abbrev pub with_line : Shape → ℕ → Masks → Look
+pub held_back : {X Y : Type 0} (b : Bool) {r y : Y} (x : X) → Err r ≡ cond b (Ok x) (Err y) → (b ≡ false) × (r ≡ y)
+held_back true x e = absurd (none-some _ (ap result_ok e))
+held_back false x e = (refl, same_Some _ _ (ap result_err e))
+
+-- A look has what a survey said, by the same test.
+abbrev with_line : Shape → ℕ → Masks → Look
 with_line s a m = record { line = line_of s a; said = m }
 
-pub looked : (s : Shape) (t : Model) (a : ℕ) {r : Result Masks Refusal} → r ≡ ok_or (sound_masks s t a) Entry
-    → result_map_both (with_line s a) (λ (e : Refusal). e) r ≡ ok_or (look_of s t a) Entry
-unfolding sound_masks look_of
-looked s t a e = rw e (looked_by (column_sound s t a) (with_line s a) (masks_of s t a))
+module _ (s : Shape) (t : Model) (a : ℕ) {m : Masks} where
+  pub looked_sound : Ok m ≡ sound_masks s t a → Ok (with_line s a m) ≡ look_of s t a
+  unfolding sound_masks look_of
+  looked_sound e = let p = let_through (column_sound s t a) _ e in rw (p.0, p.1)
+
+  pub looked_unsound : Err m ≡ sound_masks s t a → Err (record { look = with_line s a m }) ≡ look_of s t a
+  unfolding sound_masks look_of
+  looked_unsound e = let p = held_back (column_sound s t a) _ e in rw (p.0, p.1)
 
 -- What the masks say is what the definitions ask, in the tables with any memory beside them.
 module _ (s : Shape) (t : Model) (a : ℕ) {x : Masks} (e : x ≡ masks_of s t a) where

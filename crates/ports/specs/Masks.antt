@@ -1,5 +1,5 @@
 -- Sets of ports as numbers, a bit for each port; and what the ports say of a line, in that form.
-use Rattle.std.specs.Prelude.{ℕ, zero, suc, ◌+◌, ◌*◌, ◌/◌, ◌%◌, ◌^◌, ◌<◌, ◌≡◌, Bool, true, cond, ◌&&◌, ◌||◌, not, List, get_or, eqb, ltb, Option, Some, None}
+use Rattle.std.specs.Prelude.{ℕ, zero, suc, ◌+◌, ◌*◌, ◌/◌, ◌%◌, ◌^◌, ◌<◌, ◌≡◌, Bool, true, cond, ◌&&◌, ◌||◌, not, List, get_or, eqb, ltb, Result, Ok, Err}
 use Rattle.words.specs.Bools.{bit}
 use Rattle.protocol.specs.declared.state.State.TheVariants.{I}
 use Rattle.protocol.specs.State.{state_of, or_invalid, is_state, valid, owner}
@@ -9,6 +9,7 @@ use Rattle.shape.specs.Shape.{entry_of}
 use Rattle.model.specs.Tables.{Model, holds, owns, column_sound}
 use Rattle.ports.specs.declared.survey.Masks.{Masks}
 use Rattle.ports.specs.declared.survey.Look.{Look}
+use Rattle.ports.specs.declared.survey.Unsound.{Unsound}
 use Rattle.ports.specs.Line.{line_of}
 
 -- The n ports from a on that pass the test: bit 0 is port a's.
@@ -48,10 +49,12 @@ look_lanes x t b = says_of (eqb t x.tag) (ltb t x.limit) b
 unfoldable pub masks_of : Shape → Model → ℕ → Masks
 masks_of s t a = record { holders = ports_from (holds s t a) 0 s.ports; owners = ports_from (owns s t a) 0 s.ports }
 
--- The same where every entry at the line's index is sound, else nothing.
-unfoldable pub sound_masks : Shape → Model → ℕ → Option Masks
-sound_masks s t a = cond (column_sound s t a) (Some (masks_of s t a)) None
+-- The same, an error where an entry at the line's index is unsound.
+unfoldable pub sound_masks : Shape → Model → ℕ → Result Masks Masks
+sound_masks s t a = cond (column_sound s t a) (Ok (masks_of s t a)) (Err (masks_of s t a))
 
--- The line, and what the ports say of it, where every entry at its index is sound, else nothing.
-unfoldable pub look_of : Shape → Model → ℕ → Option Look
-look_of s t a = cond (column_sound s t a) (Some (record { line = line_of s a; said = masks_of s t a })) None
+-- The line, and what the ports say of it; an error, which says as much, where an entry at the line's index is unsound.
+unfoldable pub look_of : Shape → Model → ℕ → Result Look Unsound
+look_of s t a =
+    let l : Look = record { line = line_of s a; said = masks_of s t a } in
+    cond (column_sound s t a) (Ok l) (Err (record { look = l }))

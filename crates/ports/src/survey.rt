@@ -1,6 +1,5 @@
 // One look at every port's entry for a line.
 ghost use Rattle.std.specs.Prelude.{◌≡◌, true, ℕ, ◌+◌, ◌*◌, ◌-◌, ◌/◌, ◌%◌, ◌^◌, ◌<◌, get_or};
-ghost use Rattle.std.specs.Option.{ok_or};
 ghost use Rattle.refusals.specs.declared.Refusal.{Refusal};
 ghost use Rattle.endian.specs.Little.{numbers};
 ghost use Rattle.shape.specs.Shape.{in_range, entries};
@@ -68,12 +67,12 @@ fn rotated_left(x: u64, n: usize) -> u64
 
 // Asks every port, in one pass. The number of the port's entry runs beside the port, from the index on: sets more for each port. What a port
 // says comes in at the lanes' lowest bits; all is rotated right by one bit for each port, and left at the end by as many bits as there are
-// ports, so that port p's bit is bit p. Where an entry is unsound the order is refused. No word is read: the words are lent so that what is
+// ports, so that port p's bit is bit p. The masks are an error where an entry is unsound. No word is read: the words are lent so that what is
 // said is said of the whole tables.
-fn survey_ports(tags: &[u8], states: &[u8], words: &[u8], line: Line) -> Result<Masks, Refusal>
+fn survey_ports(tags: &[u8], states: &[u8], words: &[u8], line: Line) -> Result<Masks, Masks>
     requires filled { Filled line.shape tags.now states.now words.now }
     requires placed { Placed line }
-    ensures { result ≡ ok_or (sound_masks line.shape (tables_in line.shape tags.now states.now words.now) line.number) Refusal.Entry }
+    ensures { result ≡ sound_masks line.shape (tables_in line.shape tags.now states.now words.now) line.number }
 {
     let ports = line.shape.ports;
     let mut rotated = 0u64;
@@ -88,7 +87,7 @@ fn survey_ports(tags: &[u8], states: &[u8], words: &[u8], line: Line) -> Result<
     let marked = sum / 65536;
     let owners = marked & holders;
     if owners != marked {
-        return Err(Refusal::Entry);
+        return Err(Masks { holders, owners });
     }
     Ok(Masks { holders, owners })
 }
@@ -100,19 +99,38 @@ pub struct Look {
     pub said: Masks,
 }
 
-// Looks at line a of a shape. An order that looks at the ports' entries is refused where one of them is unsound.
+// A look that met an unsound entry.
+#[derive(Clone, Copy)]
+pub struct Unsound {
+    pub look: Look,
+}
+
+// The refusal of an order whose look met one.
+impl From<Unsound> for Refusal {
+    ghost from_gives = { λ u r. r ≡ Refusal.Entry };
+
+    fn from(_: Unsound) -> Refusal {
+        Refusal::Entry
+    }
+}
+
+// Looks at line a of a shape. Where one of the ports' entries is unsound the look is an error, which says as much of the line.
 pub fn look_at(
     shape: Shape,
     tags: &[u8],
     states: &[u8],
     words: &[u8],
     a: usize,
-) -> Result<Look, Refusal>
+) -> Result<Look, Unsound>
     requires filled { Filled shape tags.now states.now words.now }
     requires there { (in_range shape ≡ true) × (a < shape.lines) }
-    ensures { result ≡ ok_or (look_of shape (tables_in shape tags.now states.now words.now) a) Refusal.Entry }
+    ensures { result ≡ look_of shape (tables_in shape tags.now states.now words.now) a }
 {
     let line = line::line_of(shape, a);
-    let said = survey_ports(tags, states, words, line)?;
-    Ok(Look { line, said })
+    match survey_ports(tags, states, words, line) {
+        Ok(said) => Ok(Look { line, said }),
+        Err(said) => Err(Unsound {
+            look: Look { line, said },
+        }),
+    }
 }

@@ -1,12 +1,8 @@
 -- A call that looks at its line: its refusal, and what else comes of it. Assumes nothing.
 use Prim.Native.Nat.{ℕ, ◌<◌}
-use mathlib.Core.Path.{◌≡◌, refl, sym, ap}
-use mathlib.Core.Bool.{Bool, true, false, cond}
-use Rattle.std.specs.Prelude.{Some, None, Ok, Err}
-use Rattle.std.specs.Option.{ok_or}
-use Rattle.std.specs.Result.{result_ok, result_err}
-use Rattle.std.proofs.lemmas.Option.{none-some, same_Some}
-use Rattle.refusals.specs.declared.Refusal.{Refusal}
+use mathlib.Core.Path.{◌≡◌, refl, ap}
+use mathlib.Core.Bool.{true}
+use Rattle.std.specs.Prelude.{Ok, Err}
 use Rattle.refusals.specs.declared.Refusal.TheVariants.{Entry}
 use Rattle.shape.specs.declared.Shape.{Shape}
 use Rattle.model.specs.declared.order.Call.{Call}
@@ -15,37 +11,29 @@ use Rattle.model.specs.Order.{Asked, looks}
 use Rattle.model.specs.Tables.{column_sound}
 use Rattle.model.specs.Step.{result, answer_of, called, perform}
 use Rattle.ports.specs.declared.survey.Look.{Look}
+use Rattle.ports.specs.declared.survey.Unsound.{Unsound}
 use Rattle.ports.specs.Bytes.{Bytes, model_in, tables_in, Fitting}
 use Rattle.ports.specs.Line.{line_of, Placed}
 use Rattle.ports.specs.Masks.{masks_of, look_of}
 use Rattle.ports.proofs.Places.{placed}
-use Rattle.ports.proofs.Surveys.{sound_column}
-
--- A value that a test lets through, and an error that it gives.
-let_through : {X : Type 0} (b : Bool) {x y : X} → Ok x ≡ ok_or (cond b (Some y) None) Entry → (b ≡ true) × (x ≡ y)
-let_through true e = (refl, same_Some _ _ (ap result_ok e))
-let_through false e = absurd (none-some _ (sym (ap result_ok e)))
-
-held_back : {X : Type 0} (b : Bool) {r : Refusal} (y : X) → Err r ≡ ok_or (cond b (Some y) None) Entry → (b ≡ false) × (r ≡ Entry)
-held_back true y e = absurd (none-some _ (ap result_ok e))
-held_back false y e = (refl, same_Some _ _ (ap result_err e))
+use Rattle.ports.proofs.Surveys.{let_through, held_back, sound_column}
 
 module _ (s : Shape) (a : ℕ) (b : Bytes) (fits : Fitting s b) (there : a < s.lines) where
   -- The call is refused, and nothing changes.
-  pub call_refused : {r : Refusal} → Err r ≡ ok_or (look_of s (tables_in s b.tags b.states b.words) a) Entry
-      → (c : Call) → looks c ≡ true → result (answer_of (Err r)) (model_in s b) ≡ perform s (model_in s b) (Asked c a)
+  pub call_refused : {u : Unsound} → Err u ≡ look_of s (tables_in s b.tags b.states b.words) a
+      → (c : Call) → looks c ≡ true → result (answer_of (Err Entry)) (model_in s b) ≡ perform s (model_in s b) (Asked c a)
   unfolding perform look_of
   call_refused e c look =
-      let h = held_back (column_sound s (tables_in s b.tags b.states b.words) a) _ e in rw (look, ← sound_column s b a, h.0, h.1)
+      let h = held_back (column_sound s (tables_in s b.tags b.states b.words) a) _ e in rw (look, ← sound_column s b a, h.0)
 
-  module _ {k : Look} (e : Ok k ≡ ok_or (look_of s (tables_in s b.tags b.states b.words) a) Entry) where
+  module _ {k : Look} (e : Ok k ≡ look_of s (tables_in s b.tags b.states b.words) a) where
     sound_is : column_sound s (tables_in s b.tags b.states b.words) a ≡ true
     unfolding look_of
-    sound_is = (let_through (column_sound s (tables_in s b.tags b.states b.words) a) e).0
+    sound_is = (let_through (column_sound s (tables_in s b.tags b.states b.words) a) _ e).0
 
     look_is : ◌≡◌ {A = Look} k (record { line = line_of s a; said = masks_of s (tables_in s b.tags b.states b.words) a })
     unfolding look_of
-    look_is = (let_through (column_sound s (tables_in s b.tags b.states b.words) a) e).1
+    look_is = (let_through (column_sound s (tables_in s b.tags b.states b.words) a) _ e).1
 
     -- What an order on the line asks.
     pub look_fits : Fitting k.line.shape b

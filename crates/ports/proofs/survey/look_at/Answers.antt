@@ -1,8 +1,7 @@
 -- The line by `line_of`, and the survey of it. Assumes nothing.
-use Rattle.std.proofs.lemmas.Result.{err_from_is_err_and}
 use Rattle.ports.specs.Line.{line_of}
 use Rattle.ports.proofs.Places.{placed}
-use Rattle.ports.proofs.Surveys.{looked}
+use Rattle.ports.proofs.Surveys.{looked_sound, looked_unsound}
 use Rattle.ports.proofs.survey.look_at.Goals as goal
 
 pub survey_ports-requires-clause-filled : goal.survey_ports-requires-clause-filled
@@ -12,12 +11,10 @@ survey_ports-requires-clause-filled c = rw c.line_of-line.ensures c.requires.fil
 pub survey_ports-requires-clause-placed : goal.survey_ports-requires-clause-placed
 survey_ports-requires-clause-placed c = placed _ _ c.requires.there.0 c.requires.there.1 c.line_of-line.ensures
 
-pub returns-in_err-said : goal.returns-in_err-said
+pub returns-in-Ok : goal.returns-in-Ok
 unfolding line_of
-returns-in_err-said c =
-    let p = err_from_is_err_and c.from_residual.result c.from_residual.ensures.1 in
-    rw (p.1, p.2) (looked _ _ _ (rw c.line_of-line.ensures at c.in_err-said.ensures))
+returns-in-Ok c = rw c.line_of-line.ensures (looked_sound _ _ _ (rw c.line_of-line.ensures at c.in-Ok.ensures))
 
-pub returns : goal.returns
+pub returns-in-Err : goal.returns-in-Err
 unfolding line_of
-returns c = rw c.line_of-line.ensures (looked _ _ _ (rw c.line_of-line.ensures at c.in_ok-said.ensures))
+returns-in-Err c = rw c.line_of-line.ensures (looked_unsound _ _ _ (rw c.line_of-line.ensures at c.in-Err.ensures))
