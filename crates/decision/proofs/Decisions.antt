@@ -91,6 +91,7 @@ module _ {l : Line} (v : Placed l) (g h d : List ℕ) (i : ℕ) (port : i < l.sh
             entry = record { tag = l.place.tag; byte = own; word = k.word };
             others = others;
             bus = r.bus;
+            victim = record { line = home; word = e.word };
             evicted = x₁;
             stored = x₂;
             answer = n;

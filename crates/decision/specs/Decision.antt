@@ -22,17 +22,19 @@ abbrev pub store_of : Option Store → List ℕ → List ℕ
 store_of None l = l
 store_of (Some x) l = set l x.line x.word
 
--- What an access by port i of line a comes to: the own entry afterwards, the other holders and their command, what is stored of an owner that is
--- evicted, what is stored of the line, and the answer.
+-- What an access by port i of line a comes to: the own entry afterwards, the other holders and their command, the home line and the word of the
+-- own entry as it was, which are stored where an owner is evicted, what is stored of the line, and the answer.
 unfoldable pub decided : Shape → Model → ℕ → ℕ → Access → Mode → Decision
 decided s t i a acc m =
     let e = effect_at acc (word_found s t i a) in
     let r = access_rule s t i a m e in
+    let v : Store = record { line = victim s t i a; word = word_at s t a i } in
     record {
       entry = record { tag = tag_of s a; byte = code r.own; word = e.word };
       others = ports_from (other s t i a) 0 s.ports;
       bus = r.bus;
-      evicted = then_some (evicts_owner s t i a) (record { line = victim s t i a; word = word_at s t a i });
+      victim = v;
+      evicted = then_some (evicts_owner s t i a) v;
       stored = then_some r.stores (record { line = a; word = e.word });
       answer = (accessed s t i a acc m).answer;
     }

@@ -21,20 +21,21 @@ use protocol::rules::{self, Bus};
 use protocol::state::{self, Mode, State};
 use words::access::{self, Access};
 
-// A word that is stored in main memory, and its line.
+// A word for main memory, and its line.
 #[derive(Clone, Copy)]
 pub struct Store {
     pub line: usize,
     pub word: u64,
 }
 
-// The own entry afterwards; the other holders, a bit for each port, and the bus command that they hear; what is stored of an owner
-// that is evicted, and what of the line; and the answer.
+// The own entry afterwards; the other holders, a bit for each port, and the bus command that they hear; the home line and the word of the own
+// entry as it was, which are stored where an owner is evicted; what is stored of the line; and the answer.
 #[derive(Clone, Copy)]
 pub struct Decision {
     pub entry: Entry,
     pub others: u64,
     pub bus: Bus,
+    pub victim: Store,
     pub evicted: Option<Store>,
     pub stored: Option<Store>,
     pub answer: Answer,
@@ -112,6 +113,10 @@ pub fn decide(
     let fetches = !hit & !dirty;
     let evicts = !hit & state::is_owner(e.byte);
     let home = entry::home_of(e.tag, sets, index);
+    let victim = Store {
+        line: home,
+        word: e.word,
+    };
     Decision {
         entry: Entry {
             tag: line.place.tag,
@@ -120,10 +125,8 @@ pub fn decide(
         },
         others,
         bus: r.bus,
-        evicted: evicts.then_some(Store {
-            line: home,
-            word: e.word,
-        }),
+        victim,
+        evicted: evicts.then_some(victim),
         stored: r.stores.then_some(Store {
             line: line.number,
             word: effect.word,
