@@ -53,8 +53,8 @@ impl Column<'_> {
     fn is_sound(&self) -> bool
         ensures { result ≡ column_sound self.now.shape (model [] self.now.tags.now self.now.states.now []) self.now.line }
     {
-        for p in 0..self.shape.ports {
-            if !self.sound_at(p) {
+        for port in 0..self.shape.ports {
+            if !self.sound_at(port) {
                 return false;
             }
         }

@@ -5,5 +5,5 @@ use Rattle.model.specs.Tables.{model, sound}
 use Rattle.model.proofs.Loops.{Passing}
 use Rattle.find.proofs.Column.is_sound.Given as goal
 
-abbrev pub invariant-loop-p : goal.invariant-loop-p
-invariant-loop-p l = Passing (λ p. sound l.self.shape (model [] l.self.tags.now l.self.states.now []) (entry_of l.self.shape l.self.line p)) l.self.shape.ports l.p
+abbrev pub invariant-loop-port : goal.invariant-loop-port
+invariant-loop-port l = Passing (λ p. sound l.self.shape (model [] l.self.tags.now l.self.states.now []) (entry_of l.self.shape l.self.line p)) l.self.shape.ports l.port
