@@ -41,6 +41,11 @@ pub store_then : (b : Bool) (x : Store) {o : Option Store} → o ≡ then_some b
 store_then true x e l = rw e refl
 store_then false x e l = rw e refl
 
+-- What is stored, where it is known.
+pub stored_word : (m : List ℕ) (a w : ℕ) {m' : List ℕ} {o : Option Store} → m' ≡ store_of o m → o ≡ Some (record { line = a; word = w })
+    → m' ≡ store true a w m
+stored_word m a w e q = rw (e, q) refl
+
 -- The line of a store by a test is there, where it is there if the test says yes.
 pub line_then : (b : Bool) (x : Store) (n : ℕ) → (b ≡ true → x.line < n) → IfSome (then_some b x) (λ x. x.line < n)
 line_then true x n h = h refl

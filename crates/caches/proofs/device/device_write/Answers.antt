@@ -2,6 +2,7 @@
 use Rattle.words.proofs.Merge.{word_merged}
 use Rattle.ports.specs.Bytes.{bytes, tables_in}
 use Rattle.ports.proofs.Surveys.{masks_owners, sound_states}
+use Rattle.caches.proofs.Applied.{stored_word}
 use Rattle.caches.proofs.Devices.{all_hold, written_done}
 use Rattle.caches.proofs.device.device_write.Goals as goal
 
@@ -23,4 +24,4 @@ returns c =
     let x = c.args in
     written_done c.requires.placed (bytes x.memory.now x.tags.now x.states.now x.words.now) c.requires.said _ _ _
     c.supplied_word-supplied.ensures (word_merged _ _ _ c.merged-merge.ensures)
-    c.ask.ensures c.store.ensures c.accept.ensures
+    c.ask.ensures (search stored_word) c.accept.ensures

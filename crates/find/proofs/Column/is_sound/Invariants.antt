@@ -1,4 +1,4 @@
--- The ports below q have sound entries. Assumes nothing.
+-- The ports below `port` have sound entries. Assumes nothing.
 use Rattle.std.proofs.Common.{[]}
 use Rattle.shape.specs.Shape.{entry_of}
 use Rattle.model.specs.Tables.{model, sound}
