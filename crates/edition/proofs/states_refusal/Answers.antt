@@ -1,5 +1,5 @@
 -- The loop keeps that no byte below the index is no state, and whether one is in write through. Assumes nothing.
-use Rattle.std.proofs.Common.{sym, ◌∙◌}
+use Rattle.std.proofs.Common.{sym, ◌∙◌, rules}
 use mathlib.Core.Bool.{false≢true}
 use Rattle.edition.proofs.Loops.{asking_none}
 use Rattle.edition.proofs.Conversions.{found_no_state, byte_more, through_more, found_is}
@@ -22,8 +22,9 @@ loop-b-preserved c =
 
 pub returns-then-eq : goal.returns-then-eq
 returns-then-eq c =
-    found_no_state c.args.way c.args.states.now c.loop-b.invariant c.loop-b-test.true (sym c.convert_byte.ensures ∙ c.in-Err.is)
-    (λ z. false≢true (sym (sym c.if-eq.true ∙ c.eq.ensures ∙ rw z)))
+    let told = found_no_state c.args.way c.args.states.now c.loop-b.invariant c.loop-b-test.true (sym c.convert_byte.ensures ∙ c.in-Err.is)
+    (λ z. false≢true (sym (sym c.if-eq.true ∙ c.eq.ensures ∙ rw z))) in
+    search (told, rules)
 
 pub returns : goal.returns
 returns c = found_is c.args.way c.args.states.now c.loop-b.invariant c.loop-b-test.false
